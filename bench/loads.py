@@ -74,7 +74,7 @@ def listing(size):
     return copied(size, f"bee all 1\nPARTIAL 3 {{count}}\n{three}ledger\nenc 1\nproof\n", 5, "1 2 0 1 0\n")
 
 
-def core_text(size):
+def conflict_text(size):
     return copied(size, "bee core 1\nUNKNOWN {count}\nstatement 3\nledger\nenc 1\nproof\n", 2, "1 2 0 1 0\n")
 
 
@@ -158,7 +158,7 @@ LOADS = {
     "terms": (terms, 900_000, ["opbmodel", "opb"]),
     "document": (document, 500_000_000, ["check"]),
     "list": (listing, 500_000_000, ["checkall"]),
-    "core": (core_text, 500_000_000, ["checkcore"]),
+    "core": (conflict_text, 500_000_000, ["checkcore"]),
     "refutation": (refutation, 500_000_000, ["certify"]),
     "one line": (one_line, 500_000_000, list(BEHIND_A_MODEL)),
 }

@@ -6,16 +6,16 @@ Each model has a statement of a given kind, all kinds in turn. Compared are
              finds a solution; of the statements of a CORE, that no assignment in the domains meets them, and that
              without any one of them some assignment does; the budget where it says UNKNOWN
   checkcore  each text, as it stands and with a byte, a line and a number changed: the verdict, or the line that is
-             refused, by the reading of `core_text_reading.py`; and each such text of the same statements with a ledger
+             refused, by the reading of `conflict_reading.py`; and each such text of the same statements with a ledger
              of steps in any order
 BEE names another program that is tried. Wants python3."""
 import itertools
 
 from answer_reading import Refused
-from core_text_reading import CoreText, only, statement_numbers
+from conflict_reading import ConflictText, only, statement_numbers
 from fuzz_changes import CHANGES, wandered
 from ledger_reading import Compilation
-from refuting import core_text
+from refuting import conflict_text
 from small_models import KINDS, Maker
 from trials import tried, want
 
@@ -56,9 +56,9 @@ def witnesses_of(model, core):
 
 def reading(trial, text):
     """What the reading says of the text of a core, and its statements."""
-    said = CoreText(trial.model, text)
+    said = ConflictText(trial.model, text)
     try:
-        return f"ACCEPTED {said.verdict()}", said.core
+        return f"ACCEPTED {said.verdict()}", said.named
     except Refused as refused:
         return f"REFUSED {refused.args[0]}", None
 
@@ -109,7 +109,7 @@ def make(trial):
 def compare_made(trial, path, core):
     """The same statements behind a ledger of any steps."""
     ledger = wandered(trial.chance, Compilation(only(trial.model, core)), trial.chance.choice((2, 10, 40)))
-    made = core_text(trial.chance, trial.model, core, ledger, witnesses_of(trial.model, core)[0])
+    made = conflict_text(trial.chance, trial.model, core, ledger, witnesses_of(trial.model, core)[0])
     if made is not None:
         is_taken = compare_core(trial, path, made, "ledger").startswith("ACCEPTED")
         want(is_taken, "the reading refuses a text that was made")

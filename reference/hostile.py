@@ -6,7 +6,7 @@ random: a byte, a line or a number, also several times. What the program says of
 refused, is compared with the reading of this folder. The kinds:
   answer   `bee check` beside `answer_reading.py`
   list     `bee checkall` beside `list_reading.py`
-  core     `bee checkcore` beside `core_text_reading.py`
+  core     `bee checkcore` beside `conflict_reading.py`
   values   `bee decode` beside `answer_reading.py`
   drup     `bee drup` beside `drup_reading.py`
   found    `bee certify` beside `found_reading.py`
@@ -15,7 +15,7 @@ BEE names another program that is tried. Wants python3, and cadical for `values`
 import multiprocessing, random, subprocess, sys, tempfile
 
 from answer_reading import Answer, Compiled, Refused, values
-from core_text_reading import CoreText
+from conflict_reading import ConflictText
 from drup_reading import drup
 from fuzz_changes import CHANGES
 from found_reading import found
@@ -151,7 +151,7 @@ class Kept:
         return "ACCEPTED " + ListText(self.model, Steps(self.compilation), text).verdict()
 
     def core(self, text):
-        return "ACCEPTED " + CoreText(self.model, text).verdict()
+        return "ACCEPTED " + ConflictText(self.model, text).verdict()
 
     def values(self, text):
         values(self.compiled, text)

@@ -1,6 +1,6 @@
 """Texts that the program does not write: lists and cores behind ledgers of any steps, with refutations of a plain
 search, and such as were given up."""
-from core_text_reading import only
+from conflict_reading import only
 from ledger_reading import Compilation, Steps
 
 # So many clauses a refutation has, at most.
@@ -90,8 +90,8 @@ def list_text(chance, compilation, model, solutions, ledger):
     return joined(["bee all 1", verdict, *told, "ledger", *(it.decode() for it in ledger), "proof", *proof, "end"])
 
 
-def core_text(chance, model, numbers, ledger, witnesses):
-    """A valid text of a core, these statements of the model: CORE where the clauses of the ledger have a short
+def conflict_text(chance, model, numbers, ledger, witnesses):
+    """A valid text of a conflict, these statements of the model: CORE where the clauses of the ledger have a short
     refutation, and else UNKNOWN. None where there is no clause. Each statement has its witness, which is an assignment
     that meets the others."""
     steps = Steps(Compilation(only(model, numbers)))

@@ -6,7 +6,7 @@ use Rattle.text_modes.specs.declared.ends.End.TheVariants.{Wrote}
 use Rattle.model_texts.specs.declared.fault.ModelFault.{ModelFault}
 use Rattle.model_texts.specs.ModelTexts.{HasFault}
 use Rattle.search_options.specs.declared.options.SearchOptions.{SearchOptions}
-use Rattle.checkall_mode.specs.CheckAllMode.{HaveEnd}
+use Rattle.check_modes.specs.CheckAllMode.{HaveEnd}
 use Rattle.all_mode.specs.Listed.{IsListed}
 use Rattle.all_mode.specs.AllMode.{HasModel}
 

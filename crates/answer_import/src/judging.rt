@@ -12,7 +12,7 @@ use crate::cut::{Cut, cut_front};
 use crate::refuting::refutation;
 use answer_document::{Bounds, Verdict};
 use bee_list::Sequence;
-use dimacs_read::{CompiledTextFault, read_values};
+use dimacs_read::{ValuesTextFault, read_values};
 use drup_check::DrupFault;
 use model_decode::decode;
 use model_meaning::{Assignment, Goal};
@@ -137,7 +137,9 @@ pub(crate) fn judge(alloc: Global, task: Task, text: &[u8]) -> Result<Found, All
     }
     match read_values(alloc, cut.front.text.as_slice(), &task.cnf) {
         Ok(values) => shown_by_values(alloc, task, &cut, values.as_slice()),
-        Err(CompiledTextFault::Form(line)) => Ok(Found::Refused(line)),
-        Err(CompiledTextFault::Memory) => Err(AllocError),
+        Err(ValuesTextFault::Misfit(line) | ValuesTextFault::Missing(line)) => {
+            Ok(Found::Refused(line))
+        }
+        Err(ValuesTextFault::Memory) => Err(AllocError),
     }
 }

@@ -12,7 +12,7 @@ use Rattle.ledger_check.specs.Reading.{IsEnd}
 use Rattle.ledger_check.specs.Tests.{start_standing}
 use Rattle.ledger_check.specs.Checked.{IsFirstFault, IsRefused}
 use Rattle.ledger_check.proofs.DocumentLines.{declared-lines}
-use Rattle.check_mode.proofs.Refusals.{first_fault_refused}
+use Rattle.check_modes.proofs.AnswerRefusals.{first_fault_refused}
 use Rattle.bee_cli.specs.CheckLaws.{SolvedIsAccepted, FileAnswerIsAccepted, EmptyIsRefused}
 
 pub solved_is_accepted : SolvedIsAccepted

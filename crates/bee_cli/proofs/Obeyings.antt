@@ -14,7 +14,7 @@ use Rattle.text_modes.specs.declared.ends.End.TheVariants as end
 use Rattle.compile_mode.proofs.Ends as compiling
 use Rattle.weigh_mode.proofs.Ends as weighing
 use Rattle.solve_mode.proofs.Ends as solving
-use Rattle.check_mode.proofs.Ends as checking
+use Rattle.check_modes.proofs.AnswerEnds as checking
 use Rattle.decode_mode.proofs.Ends as decoding
 use Rattle.queens_mode.specs.QueensMode.{QueensMode}
 use Rattle.queens_mode.proofs.Ends as placing
@@ -22,9 +22,9 @@ use Rattle.sat_mode.proofs.Ends as searching
 use Rattle.drup_mode.proofs.Ends as proving
 use Rattle.opb_mode.proofs.Ends as files
 use Rattle.all_mode.proofs.Ends as listing
-use Rattle.checkall_mode.proofs.Ends as list_checking
+use Rattle.check_modes.proofs.ListEnds as list_checking
 use Rattle.core_mode.proofs.Ends as explaining
-use Rattle.checkcore_mode.proofs.Ends as core_checking
+use Rattle.check_modes.proofs.ConflictEnds as core_checking
 use Rattle.bound_mode.proofs.Ends as bounding
 use Rattle.certify_mode.proofs.Ends as certifying
 use Rattle.model_texts.specs.declared.fault.ModelFault.{ModelFault}

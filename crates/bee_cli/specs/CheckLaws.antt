@@ -6,7 +6,7 @@ use Rattle.text_modes.specs.declared.ends.Outcome.TheVariants.{Done, Refused}
 use Rattle.text_modes.specs.declared.ends.End.TheVariants.{Wrote}
 use Rattle.search_options.specs.declared.options.SearchOptions.{SearchOptions}
 use Rattle.solve_mode.specs.Solved.{IsSolved}
-use Rattle.check_mode.specs.CheckMode.{HasModel, HaveEnd}
+use Rattle.check_modes.specs.CheckMode.{HasModel, HaveEnd}
 use Rattle.opb_mode.specs.OpbModelMode.{IsModelText}
 use Rattle.opb_mode.specs.OpbMode.{IsSolvedFile}
 

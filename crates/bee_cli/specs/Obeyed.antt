@@ -6,7 +6,7 @@ use Rattle.text_modes.specs.Seen.{Seen, Untouched}
 use Rattle.compile_mode.specs.CompileMode.{CompileMode}
 use Rattle.weigh_mode.specs.WeighMode.{WeighMode}
 use Rattle.solve_mode.specs.SolveMode.{SolveMode}
-use Rattle.check_mode.specs.CheckMode.{CheckMode}
+use Rattle.check_modes.specs.CheckMode.{CheckMode}
 use Rattle.decode_mode.specs.DecodeMode.{DecodeMode}
 use Rattle.queens_mode.specs.QueensMode.{QueensMode}
 use Rattle.sat_mode.specs.SatMode.{SatMode}
@@ -14,9 +14,9 @@ use Rattle.drup_mode.specs.DrupMode.{DrupMode}
 use Rattle.opb_mode.specs.OpbModelMode.{OpbModelMode}
 use Rattle.opb_mode.specs.OpbMode.{OpbMode}
 use Rattle.all_mode.specs.AllMode.{AllMode}
-use Rattle.checkall_mode.specs.CheckAllMode.{CheckAllMode}
+use Rattle.check_modes.specs.CheckAllMode.{CheckAllMode}
 use Rattle.core_mode.specs.CoreMode.{CoreMode}
-use Rattle.checkcore_mode.specs.CheckCoreMode.{CheckCoreMode}
+use Rattle.check_modes.specs.CheckCoreMode.{CheckCoreMode}
 use Rattle.bound_mode.specs.BoundMode.{BoundMode}
 use Rattle.certify_mode.specs.CertifyMode.{CertifyMode}
 use Rattle.bee_cli.specs.Statuses.{model_fault, cnf_fault, clauses_fault, certify_fault, bound_fault, Ended}

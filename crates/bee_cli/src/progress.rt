@@ -10,7 +10,7 @@ use all_solutions::ListWatcher;
 use answer_document::push_values;
 use bee_outside::{Failed, Sink, write_all};
 use bee_text::{push_blank, push_bytes, push_number, push_signed};
-use core_extract::CoreWatcher;
+use core_extract::ConflictWatcher;
 use decode_minimize::SolutionWatcher;
 use model_meaning::{Assignment, Decl, Goal};
 use search_watcher::Watcher;
@@ -119,7 +119,7 @@ impl<E: Sink> ListWatcher for Progress<'_, E> {
     }
 }
 
-impl<E: Sink> CoreWatcher for Progress<'_, E> {
+impl<E: Sink> ConflictWatcher for Progress<'_, E> {
     fn asked(&mut self, left: usize, questions: u64) {
         if self.speaks {
             let line = part_line(self.alloc, left as u64, questions);

@@ -1,7 +1,7 @@
 //! Why a line of a second text is refused, in words.
 
 use certify_mode::RefusedFinding;
-use core_check::RefusedCore;
+use conflict_check::RefusedConflict;
 use decode_mode::RefusedValues;
 use drup_mode::RefusedProof;
 use ledger_check::Why;
@@ -26,7 +26,7 @@ pub(crate) struct Reasons {
     /// For a line of a list of solutions.
     pub(crate) list: Cell<Option<RefusedList>>,
     /// For a line of a core.
-    pub(crate) core: Cell<Option<RefusedCore>>,
+    pub(crate) core: Cell<Option<RefusedConflict>>,
 }
 
 impl Reasons {
@@ -80,7 +80,7 @@ pub enum Reason {
     /// What stands against a line of a list of solutions.
     List(RefusedList),
     /// What stands against a line of a core.
-    Core(RefusedCore),
+    Core(RefusedConflict),
 }
 
 impl Display for Reason {
@@ -177,15 +177,15 @@ fn say_list<W: fmt::Write>(fault: RefusedList, f: &mut fmt::Formatter<W>) -> fmt
 }
 
 /// Says what stands against a line of a core.
-fn say_core<W: fmt::Write>(fault: RefusedCore, f: &mut fmt::Formatter<W>) -> fmt::Result {
+fn say_core<W: fmt::Write>(fault: RefusedConflict, f: &mut fmt::Formatter<W>) -> fmt::Result {
     match fault {
-        RefusedCore::Misfit => write!(f, "not the next line of a core"),
-        RefusedCore::Named => write!(f, "no further statement of the model"),
-        RefusedCore::Value => write!(f, "no value of the next name"),
-        RefusedCore::Statement(number) => write!(f, "statement {number} does not hold"),
-        RefusedCore::Step => write!(f, "no step that is due"),
-        RefusedCore::Derived => write!(f, "no line of the derivation"),
-        RefusedCore::Open => write!(f, "not shown by the lines before"),
-        RefusedCore::Missing => write!(f, "the core does not end"),
+        RefusedConflict::Misfit => write!(f, "not the next line of a core"),
+        RefusedConflict::Named => write!(f, "no further statement of the model"),
+        RefusedConflict::Value => write!(f, "no value of the next name"),
+        RefusedConflict::Statement(number) => write!(f, "statement {number} does not hold"),
+        RefusedConflict::Step => write!(f, "no step that is due"),
+        RefusedConflict::Derived => write!(f, "no line of the derivation"),
+        RefusedConflict::Open => write!(f, "not shown by the lines before"),
+        RefusedConflict::Missing => write!(f, "the core does not end"),
     }
 }

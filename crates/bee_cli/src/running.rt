@@ -21,12 +21,10 @@ use all_solutions::ListWatcher;
 use bee_outside::{Shelf, Sink};
 use bound_mode::bound;
 use certify_mode::certify;
-use check_mode::check;
-use checkall_mode::check_all;
-use checkcore_mode::check_core;
+use check_modes::{check, check_all, check_core};
 use command_words::{Command, read_command};
 use compile_mode::compile;
-use core_extract::CoreWatcher;
+use core_extract::ConflictWatcher;
 use core_mode::core as find_core;
 use decode_minimize::SolutionWatcher;
 use decode_mode::decode;
@@ -65,7 +63,7 @@ fn asks_progress(command: &Command<'_>) -> bool
 }
 
 /// What comes of a command. Why a line is refused is put into a cell, and who watches a search stands in one.
-fn obey<S: Shelf, O: Sink, W: SolutionWatcher + ListWatcher + CoreWatcher>(
+fn obey<S: Shelf, O: Sink, W: SolutionWatcher + ListWatcher + ConflictWatcher>(
     alloc: Global,
     command: &Command<'_>,
     shelf: &mut S,

@@ -33,4 +33,4 @@ pub use derivation::{checker_of, take_derived};
 pub use laws::{certificate_law, one_line_law, word_law};
 pub use next_value::push_value;
 pub use steps::take_step;
-pub use values::{is, is_value, read_value};
+pub use values::{is_value, read_value};

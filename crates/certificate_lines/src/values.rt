@@ -1,6 +1,6 @@
 //! The lines that tell the values of names.
 
-ghost use Rattle.std.specs.Prelude.{◌≡◌, ◌↔◌, ◌&&◌, int_le, ℤ, IsTrue, MatchOption};
+ghost use Rattle.std.specs.Prelude.{◌≡◌, ◌&&◌, int_le, ℤ, MatchOption};
 ghost use Rattle.model_meaning.specs.Domains.{domain};
 ghost use Rattle.model_meaning.specs.Integers.{is_member};
 ghost use Rattle.model_meaning.specs.Limits.{InLimit, KindInLimit};
@@ -11,13 +11,6 @@ use name_map::{is_boolean_kind, read_value_line};
 
 /// What the numbers of a model are at most, in absolute value.
 const LIMIT: i128 = 1_073_741_824;
-
-/// Whether a line is a word.
-pub fn is(line: &[u8], word: &[u8]) -> bool
-    ensures { IsTrue result ↔ (line.now ≡ word.now) }
-{
-    line == word
-}
 
 /// A number in the limit, in 64 bits.
 fn narrowed(number: i128) -> Option<i64>

@@ -1,4 +1,4 @@
--- What the document of a core says is true.
+-- What the document of a conflict says is true.
 use Rattle.std.proofs.Common.{◌≡◌, ℕ, ◌≤◌, ℤ, Bool, true, false, List, [], ◌∷◌, refl, subst, arith}
 use Rattle.std.specs.Prelude.{◌==◌, ◌||◌, IsTrue}
 use Rattle.model_meaning.specs.declared.model.Model.{Model}
@@ -16,14 +16,14 @@ use Rattle.step_kernel.specs.CnfOf.{cnf_of}
 use Rattle.proof_check.specs.Known.{known}
 use Rattle.answer_document.proofs.Witnesses.{witness}
 use Rattle.answer_document.proofs.Shown.{not-refuted}
-use Rattle.core_text.specs.declared.verdict.CoreVerdict.{CoreVerdict}
-use Rattle.core_text.specs.declared.verdict.CoreVerdict.TheVariants.{Satisfiable, Core, Unknown}
-use Rattle.core_text.specs.declared.document.CoreDocument.{CoreDocument}
-use Rattle.core_text.specs.CoreDocuments.{IsShownBy, IsDocumentOf, AreWitnesses}
-use Rattle.core_text.specs.CoreSays.{IsNeeded}
+use Rattle.conflict_text.specs.declared.verdict.CoreVerdict.{CoreVerdict}
+use Rattle.conflict_text.specs.declared.verdict.CoreVerdict.TheVariants.{Satisfiable, Core, Unknown}
+use Rattle.conflict_text.specs.declared.document.ConflictDocument.{ConflictDocument}
+use Rattle.conflict_text.specs.ConflictDocuments.{IsShownBy, IsDocumentOf, AreWitnesses}
+use Rattle.conflict_text.specs.ConflictSays.{IsNeeded}
 use Rattle.core_extract.specs.Claims.{Claims, DocumentLaw}
 
-module _ (model : Model) (d : CoreDocument) where
+module _ (model : Model) (d : ConflictDocument) where
   needed : (ns : List ℕ) (given : List Assignment) → AreWitnesses model d.statements ns given → (n : ℕ) → IsTrue (is_listed n ns) → IsNeeded model d.statements n
   needed [] given h n listed = absurd (cc)
   needed (m ∷ ns) [] h n listed = absurd h

@@ -3,5 +3,5 @@ pub mod Divisions
 pub mod Replies
 pub mod Attempts
 pub mod Turns
-pub mod Cores
+pub mod Conflicts
 pub mod Claimed

@@ -18,10 +18,10 @@ use Rattle.answer_document.specs.declared.verdict.Verdict.TheVariants as verdict
 use Rattle.answer_document.specs.declared.document.Document.{Document}
 use Rattle.search_options.specs.declared.options.SearchOptions.{SearchOptions}
 use Rattle.decode_minimize.specs.Answers.{IsAnswer}
-use Rattle.core_text.specs.declared.verdict.CoreVerdict.{CoreVerdict}
-use Rattle.core_text.specs.declared.verdict.CoreVerdict.TheVariants as core
-use Rattle.core_text.specs.declared.document.CoreDocument.{CoreDocument}
-use Rattle.core_text.specs.CoreDocuments.{IsCoreDocument, AreWhole}
+use Rattle.conflict_text.specs.declared.verdict.CoreVerdict.{CoreVerdict}
+use Rattle.conflict_text.specs.declared.verdict.CoreVerdict.TheVariants as conflict
+use Rattle.conflict_text.specs.declared.document.ConflictDocument.{ConflictDocument}
+use Rattle.conflict_text.specs.ConflictDocuments.{IsConflictDocument, AreWhole}
 use Rattle.core_extract.specs.declared.reply.Certificate.{Certificate}
 use Rattle.core_extract.specs.declared.reply.Reply.{Reply}
 use Rattle.core_extract.specs.declared.reply.Reply.TheVariants.{Solved, Refuted, Spent}
@@ -38,7 +38,7 @@ use Rattle.core_extract.specs.declared.trimming.Trimming.{Trimming}
 use Rattle.core_extract.specs.declared.trimming.Trimming.TheVariants as trimming
 use Rattle.core_extract.specs.declared.choosing.Leaving.{Leaving}
 use Rattle.core_extract.specs.declared.choosing.Leaving.TheVariants as leaving
-use Rattle.core_extract.specs.declared.extracting.ExtractedCore.{ExtractedCore}
+use Rattle.core_extract.specs.declared.extracting.ExtractedConflict.{ExtractedConflict}
 use Rattle.core_extract.specs.Parts.{satisfying, whole_of, part_of, IsFit, AreFound, numbers_before}
 
 -- ledger and derivation are those of an answer to a model, with this verdict
@@ -126,7 +126,8 @@ IsLeaving told options old (leaving.Spent r s) =
     IsSpentPart told (whole_of old.model) options s × (whole_of r.model ≡ whole_of old.model)
 
 -- among so many statements at the front, each that is kept has an assignment that meets the others
-pub record IsProgress (told : Core → Equation → Type 0) (options : SearchOptions) (place : ℕ) (p : Progress) : Type 0 where
+pub record IsProgress (told : Core → Equation → Type 0) (options : SearchOptions) (place : ℕ) (p : Progress)
+    : Type 0 where
   pub reduced : IsReduced told options p.reduction
   pub found : AreFound (part_of (whole_of p.reduction.model) p.reduction.out.items)
       (numbers_before place p.reduction.out.items (whole_of p.reduction.model).stmts) p.given.items
@@ -147,51 +148,52 @@ IsSettled told options old t = GoesOn told options (length old.out.items) old t
 -- where ledger and derivation come from: an answer to the model with the statements of the part. Where that was given
 -- up, the budget is the verdict's number, and so many clauses were added; it never is where the budget is as great as
 -- what the answer's `enough` says.
-abbrev pub CertificateComes : (Core → Equation → Type 0) → Model → SearchOptions → CoreDocument → CoreVerdict → Type 0
-CertificateComes told model options d core.Satisfiable = Unit {0}
-CertificateComes told model options d (core.Core k) =
+abbrev pub CertificateComes : (Core → Equation → Type 0) → Model → SearchOptions → ConflictDocument → CoreVerdict
+    → Type 0
+CertificateComes told model options d conflict.Satisfiable = Unit {0}
+CertificateComes told model options d (conflict.Core k) =
     IsAnswered told (only model d.statements) options d.ledger d.proof verdict.Unsatisfiable
-CertificateComes told model options d (core.Unknown n) = (n ≡ options.budget)
+CertificateComes told model options d (conflict.Unknown n) = (n ≡ options.budget)
     × IsAnswered told (only model d.statements) options d.ledger d.proof (verdict.Unknown n None)
 
--- what is extracted: the document of a solution, a core, or a search that was given up, which can be written
-pub record IsExtracted (told : Core → Equation → Type 0) (model : Model) (options : SearchOptions) (d : CoreDocument)
-    : Type 0 where
-  pub document : IsCoreDocument model d
+-- what is extracted: the document of a solution, a conflict, or a search that was given up, which can be written
+pub record IsExtracted (told : Core → Equation → Type 0) (model : Model) (options : SearchOptions)
+    (d : ConflictDocument) : Type 0 where
+  pub document : IsConflictDocument model d
   pub whole : AreWhole model.decls d.assignments
   pub certificate : CertificateComes told model options d d.verdict
 
 -- with the declarations of the model
-abbrev pub IsExtractedFrom : (Core → Equation → Type 0) → Model → SearchOptions → ExtractedCore → Type 0
+abbrev pub IsExtractedFrom : (Core → Equation → Type 0) → Model → SearchOptions → ExtractedConflict → Type 0
 IsExtractedFrom told model options e = IsExtracted told model options e.document × (e.decls ≡ model.decls)
 
 -- the same of each well typed model that this one is but for its goal
-abbrev pub ExtractsFrom : (Core → Equation → Type 0) → Model → SearchOptions → ExtractedCore → Type 0
+abbrev pub ExtractsFrom : (Core → Equation → Type 0) → Model → SearchOptions → ExtractedConflict → Type 0
 ExtractsFrom told whole options e = (model : Model) → WellTyped model → whole ≡ satisfying model
     → IsExtractedFrom told model options e
 
--- the document of a core, of a solution, and of a search that was given up
-abbrev pub core_document : List ℕ → Certificate → List Assignment → CoreDocument
-core_document numbers c given = record {
-  verdict = core.Core (length numbers);
+-- the document of a conflict, of a solution, and of a search that was given up
+abbrev pub conflict_document : List ℕ → Certificate → List Assignment → ConflictDocument
+conflict_document numbers c given = record {
+  verdict = conflict.Core (length numbers);
   statements = numbers;
   ledger = c.ledger;
   proof = c.proof;
   assignments = given;
 }
 
-abbrev pub solution_document : Assignment → CoreDocument
+abbrev pub solution_document : Assignment → ConflictDocument
 solution_document a = record {
-  verdict = core.Satisfiable;
+  verdict = conflict.Satisfiable;
   statements = [];
   ledger = [];
   proof = [];
   assignments = a ∷ [];
 }
 
-abbrev pub spent_document : ℕ → SpentPart → CoreDocument
+abbrev pub spent_document : ℕ → SpentPart → ConflictDocument
 spent_document budget s = record {
-  verdict = core.Unknown budget;
+  verdict = conflict.Unknown budget;
   statements = s.statements;
   ledger = s.certificate.ledger;
   proof = s.certificate.proof;

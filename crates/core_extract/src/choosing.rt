@@ -11,7 +11,7 @@ use crate::reduction::{Attempt, Reduction, SpentPart};
 use crate::reply::Asker;
 use crate::rotating::keep;
 use crate::trimming::trim;
-use crate::watching::CoreWatcher;
+use crate::watching::ConflictWatcher;
 use crate::witnesses::Witnesses;
 use fixpoint_queue::Oracle;
 use rule_base::Steps;
@@ -83,7 +83,7 @@ fn next_size(single: bool, size: usize) -> usize {
 }
 
 /// Asks about the part without a group.
-fn leave_out<F: Oracle<L>, L: Ledger, W: CoreWatcher>(
+fn leave_out<F: Oracle<L>, L: Ledger, W: ConflictWatcher>(
     reduction: Reduction,
     asker: &Asker<'_, F, W>,
     numbers: &[u64],
@@ -122,7 +122,7 @@ fn leave_out<F: Oracle<L>, L: Ledger, W: CoreWatcher>(
 
 /// Leaves out groups until each statement is known to be needed. So many queries suffice as there are statements, and
 /// some for the groups.
-fn leave_out_groups<F: Oracle<L>, L: Ledger, W: CoreWatcher>(
+fn leave_out_groups<F: Oracle<L>, L: Ledger, W: ConflictWatcher>(
     reduction: Reduction,
     asker: &Asker<'_, F, W>,
     numbers: &[u64],
@@ -150,7 +150,7 @@ fn leave_out_groups<F: Oracle<L>, L: Ledger, W: CoreWatcher>(
 }
 
 /// A part of another that has no solution.
-pub(crate) fn make_smaller<F: Oracle<L>, L: Ledger, W: CoreWatcher>(
+pub(crate) fn make_smaller<F: Oracle<L>, L: Ledger, W: ConflictWatcher>(
     reduction: Reduction,
     asker: &Asker<'_, F, W>,
     numbers: &[u64],

@@ -9,7 +9,7 @@ ghost use Rattle.model_parts.specs.CoreWeight.{core_weight};
 ghost use Rattle.decode_minimize.specs.Answers.{IsBudget};
 ghost use Rattle.core_extract.specs.Parts.{whole_of};
 ghost use Rattle.core_extract.specs.Extracted.{IsReduced, IsSpentPart, IsProgress, IsFaultOf};
-ghost use Rattle.core_extract.specs.Extracted.{core_document, solution_document, spent_document};
+ghost use Rattle.core_extract.specs.Extracted.{conflict_document, solution_document, spent_document};
 ghost use Rattle.core_extract.specs.Extracted.{ExtractsFrom, IsExtractedFrom};
 ghost use Rattle.core_extract.specs.Extracted.{IsExtracted};
 
@@ -17,10 +17,10 @@ use crate::choosing::{Choice, make_smaller};
 use crate::reduction::{Asked, Reduction, SpentPart, numbers_in, numbers_of_part, question};
 use crate::reply::{Asker, Certificate, Reply};
 use crate::settling::{Progress, Turn, settle};
-use crate::watching::CoreWatcher;
+use crate::watching::ConflictWatcher;
 use crate::witnesses::Witnesses;
 use bee_list::Sequence;
-use core_text::{CoreDocument, CoreVerdict};
+use conflict_text::{ConflictDocument, CoreVerdict};
 use fixpoint_queue::Oracle;
 use model_lower::LowerFault;
 use model_meaning::{Assignment, Decl, Model};
@@ -33,9 +33,9 @@ use std::sync::ledger::Ledger;
 
 /// What is extracted from a model that was used up, and the model's declarations.
 #[derive(Drop)]
-pub struct ExtractedCore {
-    /// The core, or a solution, or how far the search came.
-    pub document: CoreDocument,
+pub struct ExtractedConflict {
+    /// The conflict, or a solution, or how far the search came.
+    pub document: ConflictDocument,
     /// The declared names, as the model has them.
     pub decls: Sequence<Decl>,
     /// How many queries were made; each is a compilation. Nothing is promised of it.
@@ -55,12 +55,12 @@ fn weigh_parts(alloc: Global, model: &Model) -> Result<(), LowerFault>
 }
 
 /// The document of a solution.
-fn solution_document(alloc: Global, a: Assignment) -> Result<CoreDocument, AllocError>
+fn solution_document(alloc: Global, a: Assignment) -> Result<ConflictDocument, AllocError>
     ensures { IfOk result (λ d. d ≡ solution_document a) }
 {
     let mut assignments = Vec::new(alloc);
     assignments.push(a)?;
-    Ok(CoreDocument {
+    Ok(ConflictDocument {
         verdict: CoreVerdict::Satisfiable,
         statements: Sequence::from_vec(Vec::new(alloc)),
         ledger: Sequence::from_vec(Vec::new(alloc)),
@@ -70,14 +70,14 @@ fn solution_document(alloc: Global, a: Assignment) -> Result<CoreDocument, Alloc
 }
 
 /// The document of a search that was given up.
-fn spent_document(alloc: Global, spent: SpentPart, budget: u64) -> CoreDocument
+fn spent_document(alloc: Global, spent: SpentPart, budget: u64) -> ConflictDocument
     ensures { result ≡ spent_document budget spent }
 {
     let SpentPart {
         statements,
         certificate,
     } = spent;
-    CoreDocument {
+    ConflictDocument {
         verdict: CoreVerdict::Unknown(budget),
         statements,
         ledger: certificate.ledger,
@@ -86,17 +86,17 @@ fn spent_document(alloc: Global, spent: SpentPart, budget: u64) -> CoreDocument
     }
 }
 
-/// The document of a core.
-fn core_document(
+/// The document of a conflict.
+fn conflict_document(
     numbers: Vec<u64>,
     certificate: Certificate,
     given: Vec<Assignment>,
-) -> CoreDocument
-    ensures document { result ≡ core_document numbers.items certificate given.items }
+) -> ConflictDocument
+    ensures document { result ≡ conflict_document numbers.items certificate given.items }
     ensures small { length numbers.items < 2 ^ 64 }
 {
     let count = numbers.len() as u64;
-    CoreDocument {
+    ConflictDocument {
         verdict: CoreVerdict::Core(count),
         statements: Sequence::from_vec(numbers),
         ledger: certificate.ledger,
@@ -106,16 +106,16 @@ fn core_document(
 }
 
 /// What is extracted where a search was given up.
-fn given_up<F: Oracle<L>, L: Ledger, W: CoreWatcher>(
+fn given_up<F: Oracle<L>, L: Ledger, W: ConflictWatcher>(
     asker: &Asker<'_, F, W>,
     model: DividedModel,
     spent: SpentPart,
-) -> ExtractedCore
+) -> ExtractedConflict
     requires budget { IsBudget asker.now.options.budget }
     requires spent { IsSpentPart F.told (whole_of model) asker.now.options spent }
     ensures { ExtractsFrom F.told (whole_of model) asker.now.options result }
 {
-    ExtractedCore {
+    ExtractedConflict {
         document: spent_document(asker.alloc, spent, asker.options.budget),
         decls: model.into_decls(),
         questions: asker.asked.get(),
@@ -123,27 +123,27 @@ fn given_up<F: Oracle<L>, L: Ledger, W: CoreWatcher>(
 }
 
 /// What is extracted where the model has a solution.
-fn solved<F, W: CoreWatcher>(
+fn solved<F, W: ConflictWatcher>(
     asker: &Asker<'_, F, W>,
     model: DividedModel,
     a: Assignment,
-) -> Result<ExtractedCore, AllocError>
+) -> Result<ExtractedConflict, AllocError>
     ensures document { IfOk result (λ e. e.document ≡ solution_document a) }
     ensures decls { IfOk result (λ e. e.decls ≡ (whole_of model).decls) }
 {
     let document = solution_document(asker.alloc, a)?;
-    Ok(ExtractedCore {
+    Ok(ExtractedConflict {
         document,
         decls: model.into_decls(),
         questions: asker.asked.get(),
     })
 }
 
-/// The core, where each statement of a part has an assignment that meets all others.
-fn core_of<F: Oracle<L>, L: Ledger, W: CoreWatcher>(
+/// The conflict, where each statement of a part has an assignment that meets all others.
+fn conflict_of<F: Oracle<L>, L: Ledger, W: ConflictWatcher>(
     asker: &Asker<'_, F, W>,
     progress: Progress,
-) -> Result<ExtractedCore, AllocError>
+) -> Result<ExtractedConflict, AllocError>
     requires progress { IsProgress F.told asker.now.options (length progress.reduction.out.items) progress }
     requires count { length progress.reduction.out.items
         ≡ length (numbers_of (whole_of progress.reduction.model).stmts) }
@@ -156,21 +156,21 @@ fn core_of<F: Oracle<L>, L: Ledger, W: CoreWatcher>(
         certificate,
         ..
     } = reduction;
-    Ok(ExtractedCore {
-        document: core_document(numbers, certificate, given),
+    Ok(ExtractedConflict {
+        document: conflict_document(numbers, certificate, given),
         decls: model.into_decls(),
         questions: asker.asked.get(),
     })
 }
 
 /// Settles each statement of a part that has no solution.
-fn settle_all<F: Oracle<L>, L: Ledger, W: CoreWatcher>(
+fn settle_all<F: Oracle<L>, L: Ledger, W: ConflictWatcher>(
     reduction: Reduction,
     asker: &Asker<'_, F, W>,
     numbers: &[u64],
     witnesses: &mut Witnesses,
     steps: &mut Steps<L>,
-) -> Result<ExtractedCore, AllocError>
+) -> Result<ExtractedConflict, AllocError>
     requires reduced { IsReduced F.told asker.now.options reduction }
     requires budget { IsBudget asker.now.options.budget }
     requires count { length reduction.out.items ≡ length numbers.now }
@@ -179,18 +179,18 @@ fn settle_all<F: Oracle<L>, L: Ledger, W: CoreWatcher>(
 {
     let turn = settle(reduction, asker, numbers, witnesses, steps)?;
     match turn {
-        Turn::Next(progress) => core_of(asker, progress),
+        Turn::Next(progress) => conflict_of(asker, progress),
         Turn::Spent(same, spent) => Ok(given_up(asker, same.model, spent)),
     }
 }
 
 /// From a part that has no solution to one each of whose statements is needed for that.
-fn reduce<F: Oracle<L>, L: Ledger, W: CoreWatcher>(
+fn reduce<F: Oracle<L>, L: Ledger, W: ConflictWatcher>(
     reduction: Reduction,
     asker: &Asker<'_, F, W>,
     numbers: &[u64],
     steps: &mut Steps<L>,
-) -> Result<ExtractedCore, AllocError>
+) -> Result<ExtractedConflict, AllocError>
     requires reduced { IsReduced F.told asker.now.options reduction }
     requires budget { IsBudget asker.now.options.budget }
     requires count { length reduction.out.items ≡ length numbers.now }
@@ -214,11 +214,11 @@ fn unset(alloc: Global, count: usize) -> Result<Vec<bool>, AllocError>
 }
 
 /// What is extracted from a model none of whose parts is too heavy.
-fn extract_light<F: Oracle<L>, L: Ledger, W: CoreWatcher>(
+fn extract_light<F: Oracle<L>, L: Ledger, W: ConflictWatcher>(
     asker: &Asker<'_, F, W>,
     model: Model,
     steps: &mut Steps<L>,
-) -> Result<ExtractedCore, AllocError>
+) -> Result<ExtractedConflict, AllocError>
     requires typed { WellTyped model }
     requires limits { InLimits model }
     requires budget { IsBudget asker.now.options.budget }
@@ -260,14 +260,14 @@ fn extract_light<F: Oracle<L>, L: Ledger, W: CoreWatcher>(
 /// It fails with the model's weight, and one for each `bool2int` that declares its integer, where that is above
 /// 67,108,864; and for want of memory. A query costs a compilation and a search, and the statements are moved for
 /// it, in time linear in their number.
-pub fn extract<F: Oracle<L>, L: Ledger, W: CoreWatcher>(
+pub fn extract<F: Oracle<L>, L: Ledger, W: ConflictWatcher>(
     alloc: Global,
     model: Model,
     options: SearchOptions,
     oracle: F,
     steps: &mut Steps<L>,
     watcher: &RefCell<W>,
-) -> Result<ExtractedCore, LowerFault>
+) -> Result<ExtractedConflict, LowerFault>
     requires typed { WellTyped model }
     requires limits { InLimits model }
     requires budget { IsBudget options.budget }

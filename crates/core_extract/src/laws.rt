@@ -2,7 +2,7 @@
 
 ghost use Rattle.core_extract.specs.Claims.{DocumentLaw};
 
-/// What the document of a core says of a model that is taken is true.
+/// What the document of a conflict says of a model that is taken is true.
 pub fn document_law()
     ensures { DocumentLaw }
 {}

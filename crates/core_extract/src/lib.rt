@@ -1,5 +1,5 @@
-//! Why a model has no solution: a core, which is a part of its statements that no assignment in the
-//! domains meets, and of which each statement is needed for that.
+//! Why a model has no solution: a conflict, which is a part of its statements that no assignment in
+//! the domains meets, and of which each statement is needed for that.
 //!
 //! The model is divided into a part that is asked about and what is left out. Each query is an
 //! ordinary answer to the part, so truth comes from the contract of `decode_minimize::answer_watched` alone,
@@ -9,15 +9,16 @@
 //! alone shows that this one is needed, and others come of it by changing one name (`rotating`: Belov
 //! and Marques-Silva, 2011). Such assignments are kept without a promise (`witnesses`).
 //!
-//! A core rests on the last pass alone (`settling`): each statement's assignment is tested, or the part
-//! without it is asked about; it stays with the assignment that meets all others, or leaves the part.
+//! A conflict rests on the last pass alone (`settling`): each statement's assignment is tested, or the
+//! part without it is asked about; it stays with the assignment that meets all others, or leaves the
+//! part.
 //!
-//! What `extract` promises: the document is one of a core, of a solution, or of a search that was given
-//! up (`extracted`), its ledger and derivation are those of an answer to the part, so an UNKNOWN has
+//! What `extract` promises: the document is one of a conflict, of a solution, or of a search that was
+//! given up (`extracted`), its ledger and derivation are those of an answer to the part, so an UNKNOWN has
 //! spent exactly the budget, and never comes from a stated number on; it fails exactly where a part may
 //! be too heavy, or memory is wanting (`light`, `heavy`). `document_law`: what a document says is true.
 //!
-//! How few queries are made is no promise; `ExtractedCore::questions` tells it.
+//! How few queries are made is no promise; `ExtractedConflict::questions` tells it.
 #![tactic(auto)]
 
 mod choosing;
@@ -32,6 +33,6 @@ mod trimming;
 mod watching;
 mod witnesses;
 
-pub use extracting::{ExtractedCore, extract};
+pub use extracting::{ExtractedConflict, extract};
 pub use laws::document_law;
-pub use watching::CoreWatcher;
+pub use watching::ConflictWatcher;

@@ -35,34 +35,26 @@ fn push_numbers(names: &mut Vec<usize>, terms: &[IntTerm]) -> Result<(), AllocEr
     Ok(())
 }
 
-/// Those of a statement on integers.
+/// Those of a statement on integers, and none of one on Booleans.
 fn push_arithmetic(names: &mut Vec<usize>, what: &What) -> Result<(), AllocError> {
     match what {
         What::IntSum { members, bound, .. } | What::IntLinear { members, bound, .. } => {
             push_numbers(names, members.as_slice())?;
             push_number(names, bound)
         }
+        What::IntArray { members, value, .. } => {
+            push_numbers(names, members.as_slice())?;
+            push_number(names, value)
+        }
         What::IntOp {
             left,
             right,
             value,
             ..
-        } => {
-            push_number(names, left)?;
-            push_number(names, right)?;
-            push_number(names, value)
-        }
-        What::Absolute { operand, value } => {
-            push_number(names, operand)?;
-            push_number(names, value)
-        }
-        What::IntArray { members, value, .. } => {
-            push_numbers(names, members.as_slice())?;
-            push_number(names, value)
-        }
+        } => push_numbers(names, &[*left, *right, *value]),
+        What::Absolute { operand, value } => push_numbers(names, &[*operand, *value]),
         What::Compare { left, right, .. } | What::CompareReified { left, right, .. } => {
-            push_number(names, left)?;
-            push_number(names, right)
+            push_numbers(names, &[*left, *right])
         }
         What::IntAllDifferent { members, .. } => push_numbers(names, members.as_slice()),
         What::Lexicographic {
@@ -77,7 +69,13 @@ fn push_arithmetic(names: &mut Vec<usize>, what: &What) -> Result<(), AllocError
             push_numbers(names, terms_or_none(left_numbers))?;
             push_numbers(names, terms_or_none(right_numbers))
         }
-        _ => Ok(()),
+        What::BoolToInt { .. }
+        | What::BoolEq { .. }
+        | What::BoolOp { .. }
+        | What::BoolArray { .. }
+        | What::BoolArrayReified { .. }
+        | What::BoolSum { .. }
+        | What::BoolLinear { .. } => Ok(()),
     }
 }
 
@@ -90,20 +88,13 @@ pub(crate) fn names_of(alloc: Global, what: &What) -> Result<Vec<usize>, AllocEr
             push_truth(&mut names, truth)?;
             push_number(&mut names, number)?;
         }
-        What::BoolEq { left, right } => {
-            push_truth(&mut names, left)?;
-            push_truth(&mut names, right)?;
-        }
+        What::BoolEq { left, right } => push_truths(&mut names, &[*left, *right])?,
         What::BoolOp {
             left,
             right,
             truth,
             ..
-        } => {
-            push_truth(&mut names, truth)?;
-            push_truth(&mut names, left)?;
-            push_truth(&mut names, right)?;
-        }
+        } => push_truths(&mut names, &[*truth, *left, *right])?,
         What::BoolArray { members, .. } => push_truths(&mut names, members.as_slice())?,
         What::BoolArrayReified { members, truth, .. } => {
             push_truth(&mut names, truth)?;
@@ -117,7 +108,14 @@ pub(crate) fn names_of(alloc: Global, what: &What) -> Result<Vec<usize>, AllocEr
             push_truths(&mut names, members.as_slice())?;
             push_number(&mut names, bound)?;
         }
-        _ => push_arithmetic(&mut names, what)?,
+        What::Compare { .. }
+        | What::IntSum { .. }
+        | What::IntLinear { .. }
+        | What::IntOp { .. }
+        | What::Absolute { .. }
+        | What::IntArray { .. }
+        | What::IntAllDifferent { .. }
+        | What::Lexicographic { .. } => push_arithmetic(&mut names, what)?,
     }
     Ok(names)
 }

@@ -9,7 +9,7 @@ ghost use Rattle.core_extract.specs.Parts.{whole_of, part_of, IsFit, IsAnew};
 ghost use Rattle.core_extract.specs.Extracted.{IsReply, IsReduced, IsAttempt};
 
 use crate::reply::{Asker, Certificate, Reply, ask};
-use crate::watching::CoreWatcher;
+use crate::watching::ConflictWatcher;
 use bee_list::Sequence;
 use fixpoint_queue::Oracle;
 use model_meaning::{Assignment, Model, Stmt};
@@ -86,7 +86,7 @@ fn divide(alloc: Global, model: DividedModel, out: &[bool]) -> Result<DividedMod
 }
 
 /// Divides a model by other marks, and asks about its part.
-pub(crate) fn question<F: Oracle<L>, L: Ledger, W: CoreWatcher>(
+pub(crate) fn question<F: Oracle<L>, L: Ledger, W: ConflictWatcher>(
     asker: &Asker<'_, F, W>,
     model: DividedModel,
     out: &[bool],
@@ -133,7 +133,7 @@ impl Reduction {
     }
 
     /// Asks about another part. Where it has no solution, it takes this one's place.
-    pub(crate) fn attempt<F: Oracle<L>, L: Ledger, W: CoreWatcher>(
+    pub(crate) fn attempt<F: Oracle<L>, L: Ledger, W: ConflictWatcher>(
         self,
         asker: &Asker<'_, F, W>,
         out: Vec<bool>,

@@ -7,7 +7,7 @@ ghost use Rattle.model_meaning.specs.declared.model.Goal.TheVariants.{Satisfy};
 ghost use Rattle.decode_minimize.specs.Answers.{IsBudget, IsAnswer};
 ghost use Rattle.core_extract.specs.Extracted.{reply_of, IsReply};
 
-use crate::watching::{CoreWatcher, Overheard};
+use crate::watching::{ConflictWatcher, Overheard};
 use answer_document::{Document, Verdict};
 use bee_list::Sequence;
 use decode_minimize::answer_watched;
@@ -25,7 +25,7 @@ use std::sync::ledger::Ledger;
 
 /// How queries are made: with which budget for each, and by which rules.
 #[derive(Drop)]
-pub(crate) struct Asker<'a, F, W: CoreWatcher> {
+pub(crate) struct Asker<'a, F, W: ConflictWatcher> {
     /// Where memory is taken.
     pub(crate) alloc: Global,
     /// The budget of each search, and whether it is begun anew from time to time.
@@ -84,7 +84,7 @@ fn reply_of(document: Document) -> Reply
 
 /// The answer to a model, whose learned clauses a watcher in a cell is told. Where the cell is in use, which it isn't,
 /// nobody is.
-fn heard_answer<F: Oracle<L>, L: Ledger, W: CoreWatcher>(
+fn heard_answer<F: Oracle<L>, L: Ledger, W: ConflictWatcher>(
     asker: &Asker<'_, F, W>,
     model: &Model,
     steps: &mut Steps<L>,
@@ -121,7 +121,7 @@ fn heard_answer<F: Oracle<L>, L: Ledger, W: CoreWatcher>(
 }
 
 /// Tells how small a part without a solution is behind a reply.
-fn tell<F, W: CoreWatcher>(asker: &Asker<'_, F, W>, model: &Model, reply: &Reply) {
+fn tell<F, W: ConflictWatcher>(asker: &Asker<'_, F, W>, model: &Model, reply: &Reply) {
     if let Reply::Refuted(_) = reply {
         asker.left.set(model.stmts.len());
     }
@@ -131,7 +131,7 @@ fn tell<F, W: CoreWatcher>(asker: &Asker<'_, F, W>, model: &Model, reply: &Reply
 }
 
 /// Asks whether a model has a solution. It costs a compilation and a search.
-pub(crate) fn ask<F: Oracle<L>, L: Ledger, W: CoreWatcher>(
+pub(crate) fn ask<F: Oracle<L>, L: Ledger, W: ConflictWatcher>(
     asker: &Asker<'_, F, W>,
     model: &Model,
     steps: &mut Steps<L>,

@@ -1,5 +1,5 @@
-//! The last pass, on which a core alone rests: each statement of the part gets an assignment that meets all others, or
-//! leaves the part.
+//! The last pass, on which a conflict alone rests: each statement of the part gets an assignment that meets all others,
+//! or leaves the part.
 
 ghost use Rattle.std.specs.Prelude.{◌≡◌, ◌+◌, ◌<◌, ◌++◌, ◌∷◌, [], false, length, slice_index_or};
 ghost use Rattle.std.specs.Prelude.{IfOk, IfSome, IsTrue};
@@ -11,7 +11,7 @@ ghost use Rattle.core_extract.specs.Extracted.{IsReduced, IsProgress, IsTurn, Is
 
 use crate::reduction::{Attempt, Reduction, SpentPart};
 use crate::reply::Asker;
-use crate::watching::CoreWatcher;
+use crate::watching::ConflictWatcher;
 use crate::witnesses::Witnesses;
 use fixpoint_queue::Oracle;
 use model_meaning::{Assignment, Model, in_domains};
@@ -71,7 +71,7 @@ fn with_one(given: Vec<Assignment>, a: Assignment) -> Result<Vec<Assignment>, Al
 }
 
 /// Asks whether the part has a solution without the statement at a place.
-fn ask_without<F: Oracle<L>, L: Ledger, W: CoreWatcher>(
+fn ask_without<F: Oracle<L>, L: Ledger, W: ConflictWatcher>(
     progress: Progress,
     asker: &Asker<'_, F, W>,
     place: usize,
@@ -98,7 +98,7 @@ fn ask_without<F: Oracle<L>, L: Ledger, W: CoreWatcher>(
 }
 
 /// Keeps the assignment of the statement at a place, where one is known, or asks for one.
-fn settle_kept<F: Oracle<L>, L: Ledger, W: CoreWatcher>(
+fn settle_kept<F: Oracle<L>, L: Ledger, W: ConflictWatcher>(
     progress: Progress,
     asker: &Asker<'_, F, W>,
     place: usize,
@@ -127,7 +127,7 @@ fn settle_kept<F: Oracle<L>, L: Ledger, W: CoreWatcher>(
 }
 
 /// Looks at the statement at a place.
-fn settle_at<F: Oracle<L>, L: Ledger, W: CoreWatcher>(
+fn settle_at<F: Oracle<L>, L: Ledger, W: ConflictWatcher>(
     progress: Progress,
     asker: &Asker<'_, F, W>,
     place: usize,
@@ -150,7 +150,7 @@ fn settle_at<F: Oracle<L>, L: Ledger, W: CoreWatcher>(
 }
 
 /// Gives each statement of a part its assignment, or leaves it out.
-pub(crate) fn settle<F: Oracle<L>, L: Ledger, W: CoreWatcher>(
+pub(crate) fn settle<F: Oracle<L>, L: Ledger, W: ConflictWatcher>(
     reduction: Reduction,
     asker: &Asker<'_, F, W>,
     numbers: &[u64],

@@ -8,7 +8,7 @@ ghost use Rattle.core_extract.specs.Extracted.{IsReduced, IsSameModel, IsTrimmin
 use crate::choosing::Group;
 use crate::reduction::{Attempt, Reduction};
 use crate::reply::Asker;
-use crate::watching::CoreWatcher;
+use crate::watching::ConflictWatcher;
 use fixpoint_queue::Oracle;
 use rule_base::Steps;
 use std::alloc::{AllocError, Global};
@@ -53,7 +53,7 @@ fn trimmed_marks(alloc: Global, out: &[bool], used: &[bool]) -> Result<Group, Al
 }
 
 /// Asks about the part by these marks, which are as many.
-fn trim_by<F: Oracle<L>, L: Ledger, W: CoreWatcher>(
+fn trim_by<F: Oracle<L>, L: Ledger, W: ConflictWatcher>(
     reduction: Reduction,
     asker: &Asker<'_, F, W>,
     out: Vec<bool>,
@@ -82,7 +82,7 @@ fn used_of(alloc: Global, reduction: &Reduction) -> Result<Option<Vec<bool>>, Al
 }
 
 /// Asks about what the refutation used, where a fifth of the part goes.
-fn trim_once<F: Oracle<L>, L: Ledger, W: CoreWatcher>(
+fn trim_once<F: Oracle<L>, L: Ledger, W: ConflictWatcher>(
     reduction: Reduction,
     asker: &Asker<'_, F, W>,
     steps: &mut Steps<L>,
@@ -103,7 +103,7 @@ fn trim_once<F: Oracle<L>, L: Ledger, W: CoreWatcher>(
 }
 
 /// A part of another that has no solution either: what refutations used, one after another.
-pub(crate) fn trim<F: Oracle<L>, L: Ledger, W: CoreWatcher>(
+pub(crate) fn trim<F: Oracle<L>, L: Ledger, W: ConflictWatcher>(
     reduction: Reduction,
     asker: &Asker<'_, F, W>,
     steps: &mut Steps<L>,

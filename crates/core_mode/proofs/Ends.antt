@@ -21,28 +21,28 @@ use Rattle.model_texts.specs.HeldModels.{lower_fault_of}
 use Rattle.model_texts.proofs.FirstFaults.{one_text_fault}
 use Rattle.search_options.specs.declared.options.SearchOptions.{SearchOptions}
 use Rattle.core_extract.specs.Extracted.{IsFaultOf}
-use Rattle.core_models.specs.CoreTexts.{HoldsWhole, IsFirstFaultOf, HasFaultOf, IsReasonOf}
-use Rattle.core_mode.specs.Cores.{IsCoreHeld}
+use Rattle.conflict_models.specs.ConflictModels.{HoldsWhole, IsFirstFaultOf, HasFaultOf, IsReasonOf}
+use Rattle.core_mode.specs.Conflicts.{IsConflictHeld}
 use Rattle.core_mode.specs.CoreMode.{CoreMode}
-use Rattle.core_models.proofs.Faults.{one-fault, held-fault}
+use Rattle.conflict_models.proofs.Faults.{one-fault, held-fault}
 
 held-or-fault : (text : List ℕ) (f : ModelFault) → HoldsSome HoldsWhole text → HasFaultOf text f → ⊥
 held-or-fault text f h k = held-fault text h.0 f h.1 k
 
-fit : (options : SearchOptions) (text : List ℕ) (outcome : Outcome) (written : List ℕ) → IsCoreHeld options text outcome written → HoldsSome HoldsWhole text
+fit : (options : SearchOptions) (text : List ℕ) (outcome : Outcome) (written : List ℕ) → IsConflictHeld options text outcome written → HoldsSome HoldsWhole text
 fit options text outcome written h = (h.model, h.held)
 
 -- what is said of each end decides which end a told text has
-pub mode : (options : SearchOptions) (input : List ℕ) (end : End ModelFault) (seen : Seen) → OneTextRun (Some (longest_text + 1)) (IsCoreHeld options) HasFaultOf input end seen → CoreMode options input end seen
+pub mode : (options : SearchOptions) (input : List ℕ) (end : End ModelFault) (seen : Seen) → OneTextRun (Some (longest_text + 1)) (IsConflictHeld options) HasFaultOf input end seen → CoreMode options input end seen
 mode options input end seen r = record {
   run = r;
-  faulty = faulty (Some (longest_text + 1)) (IsCoreHeld options) HasFaultOf (HoldsSome HoldsWhole) (fit options) held-or-fault one-fault input seen end r.says;
-  finishes = finishes (Some (longest_text + 1)) (IsCoreHeld options) HasFaultOf (HoldsSome HoldsWhole) (fit options) held-or-fault one-fault input seen end r.says;
+  faulty = faulty (Some (longest_text + 1)) (IsConflictHeld options) HasFaultOf (HoldsSome HoldsWhole) (fit options) held-or-fault one-fault input seen end r.says;
+  finishes = finishes (Some (longest_text + 1)) (IsConflictHeld options) HasFaultOf (HoldsSome HoldsWhole) (fit options) held-or-fault one-fault input seen end r.says;
 }
 
 -- where memory is wanting before the mode begins
 pub idle : (options : SearchOptions) (input : List ℕ) (seen : Seen) → Untouched seen → CoreMode options input Memory seen
-idle options input seen same = mode options input Memory seen (one_idle (Some (longest_text + 1)) HasFaultOf seen same (IsCoreHeld options) input)
+idle options input seen same = mode options input Memory seen (one_idle (Some (longest_text + 1)) HasFaultOf seen same (IsConflictHeld options) input)
 
 -- a text below the limit and one byte is within it
 pub within_limit : (text : List ℕ) → length text < 16777217 → length text ≤ longest_text

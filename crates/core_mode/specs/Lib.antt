@@ -1,3 +1,3 @@
-pub mod Cores
+pub mod Conflicts
 pub mod CoreMode
 pub mod Accepted

@@ -8,10 +8,10 @@ ghost use Rattle.model_parts.specs.CoreWeight.{core_weight};
 ghost use Rattle.decode_minimize.specs.Answers.{IsBudget};
 ghost use Rattle.bee_compile.specs.Compiled.{IsInstance};
 ghost use Rattle.core_extract.specs.Extracted.{IsExtracted, IsFaultOf};
-ghost use Rattle.core_mode.specs.Cores.{outcome_of};
+ghost use Rattle.core_mode.specs.Conflicts.{outcome_of};
 
-use core_extract::{CoreWatcher, ExtractedCore, extract};
-use core_text::CoreVerdict;
+use conflict_text::CoreVerdict;
+use core_extract::{ConflictWatcher, ExtractedConflict, extract};
 use model_lower::LowerFault;
 use model_meaning::Model;
 use rule_base::Steps;
@@ -34,13 +34,13 @@ pub(crate) fn outcome_of(verdict: CoreVerdict) -> Outcome
 }
 
 /// What is extracted from a model, by all rules, with a counter of its own.
-fn extract_with<L: Ledger, W: CoreWatcher>(
+fn extract_with<L: Ledger, W: ConflictWatcher>(
     alloc: Global,
     blank: Blank,
     model: Model,
     options: SearchOptions,
     watcher: &RefCell<W>,
-) -> Result<ExtractedCore, LowerFault>
+) -> Result<ExtractedConflict, LowerFault>
     requires typed { WellTyped model }
     requires limits { InLimits model }
     requires budget { IsBudget options.budget }
@@ -57,12 +57,12 @@ fn extract_with<L: Ledger, W: CoreWatcher>(
 }
 
 /// What is extracted from a model, by all rules.
-pub(crate) fn extract_model<W: CoreWatcher>(
+pub(crate) fn extract_model<W: ConflictWatcher>(
     alloc: Global,
     model: Model,
     options: SearchOptions,
     watcher: &RefCell<W>,
-) -> Result<ExtractedCore, LowerFault>
+) -> Result<ExtractedConflict, LowerFault>
     requires typed { WellTyped model }
     requires limits { InLimits model }
     requires budget { IsBudget options.budget }

@@ -1,11 +1,11 @@
 //! The laws of the mode. Each function does nothing: its contract is the law.
 
-ghost use Rattle.core_mode.specs.Accepted.{CoresAreAccepted};
+ghost use Rattle.core_mode.specs.Accepted.{ConflictsAreAccepted};
 ghost use Rattle.core_mode.specs.CoreMode.{CoreAnswers};
 
 /// What is written for a text `checkcore` accepts beside it.
 pub fn accepted_law()
-    ensures { CoresAreAccepted }
+    ensures { ConflictsAreAccepted }
 {}
 
 /// Each text has a fault, or says a model that is answered.

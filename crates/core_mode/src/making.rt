@@ -1,4 +1,4 @@
-//! From the text of a model to the text of its core.
+//! From the text of a model to the text of its conflict.
 
 ghost use Rattle.std.specs.Prelude.{◌≤◌, length, IfOk, IfErr};
 ghost use Rattle.model_meaning.specs.WellTyped.{WellTyped};
@@ -8,14 +8,14 @@ ghost use Rattle.model_parts.specs.CoreWeight.{core_weight};
 ghost use Rattle.model_texts.specs.ModelTexts.{longest_text};
 ghost use Rattle.decode_minimize.specs.Answers.{IsBudget};
 ghost use Rattle.core_extract.specs.Extracted.{IsFaultOf};
-ghost use Rattle.core_text.specs.CoreDocuments.{AreNumbers};
-ghost use Rattle.core_models.specs.CoreTexts.{IsReasonOf};
-ghost use Rattle.core_mode.specs.Cores.{IsCoreText, IsCoreHeld};
+ghost use Rattle.conflict_text.specs.ConflictDocuments.{AreNumbers};
+ghost use Rattle.conflict_models.specs.ConflictModels.{IsReasonOf};
+ghost use Rattle.core_mode.specs.Conflicts.{IsConflictText, IsConflictHeld};
 
 use crate::answering::{extract_model, outcome_of};
-use core_extract::CoreWatcher;
-use core_models::reading_fault;
-use core_text::write_core;
+use conflict_models::reading_fault;
+use conflict_text::write_core;
+use core_extract::ConflictWatcher;
 use model_lower::LowerFault;
 use model_meaning::Model;
 use model_texts::{ModelTextFault, lower_fault, model_of};
@@ -36,7 +36,7 @@ fn fit(numbers: &[u64])
 }
 
 /// The text of what is extracted from a model, with what its verdict says of the run.
-fn write_extracted<W: CoreWatcher>(
+fn write_extracted<W: ConflictWatcher>(
     alloc: Global,
     model: Model,
     options: SearchOptions,
@@ -46,7 +46,7 @@ fn write_extracted<W: CoreWatcher>(
     requires limits { InLimits model }
     requires budget { IsBudget options.budget }
     ensures light { IfOk result (λ made. core_weight model ≤ most_weight) }
-    ensures text { IfOk result (λ made. IsCoreText options model made.0 made.1.items) }
+    ensures text { IfOk result (λ made. IsConflictText options model made.0 made.1.items) }
     ensures heavy { IfErr result (λ e. IsFaultOf e model) }
 {
     let extracted = extract_model(alloc, model, options, watcher)?;
@@ -57,7 +57,7 @@ fn write_extracted<W: CoreWatcher>(
 }
 
 /// The text of what is extracted from the model that a text says.
-pub(crate) fn core_of<W: CoreWatcher>(
+pub(crate) fn conflict_of<W: ConflictWatcher>(
     alloc: Global,
     text: &[u8],
     options: SearchOptions,
@@ -65,7 +65,7 @@ pub(crate) fn core_of<W: CoreWatcher>(
 ) -> Result<(Outcome, Vec<u8>), ModelTextFault>
     requires short { length text.now ≤ longest_text }
     requires budget { IsBudget options.budget }
-    ensures held { IfOk result (λ made. IsCoreHeld options text.now made.0 made.1.items) }
+    ensures held { IfOk result (λ made. IsConflictHeld options text.now made.0 made.1.items) }
     ensures fault { IfErr result (λ e. IsReasonOf e text.now) }
 {
     let model = match model_of(alloc, text) {

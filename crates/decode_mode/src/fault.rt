@@ -8,13 +8,3 @@ pub enum RefusedValues {
     /// It isn't there: the answer ends before its values do.
     Missing,
 }
-
-/// What stands against a line: it is missing where it is behind the last one.
-pub(crate) fn fault_at(text: &[u8], line: u64) -> RefusedValues {
-    let ended = text.iter().filter(|byte| **byte == b'\n').count() as u64;
-    if line > ended {
-        RefusedValues::Missing
-    } else {
-        RefusedValues::Misfit
-    }
-}

@@ -4,9 +4,9 @@ ghost use Rattle.std.specs.Prelude.{IfOk};
 ghost use Rattle.dimacs_read.specs.TextLines.{IsReadable};
 ghost use Rattle.decode_mode.specs.Decoded.{IsDecoding};
 
-use crate::fault::{RefusedValues, fault_at};
+use crate::fault::RefusedValues;
 use dimacs_out::{CnfText, write_values};
-use dimacs_read::{CompiledTextFault, read_values};
+use dimacs_read::{ValuesTextFault, read_values};
 use std::alloc::{AllocError, Global};
 use std::cell::Cell;
 use text_modes::{Outcome, refusal};
@@ -27,11 +27,16 @@ pub(crate) fn decode_text(
             let text = write_values(alloc, held.entries.as_slice(), values.as_slice())?;
             Ok((Outcome::Done, text))
         }
-        Err(CompiledTextFault::Form(line)) => {
-            noted.set(Some(fault_at(answer, line)));
+        Err(ValuesTextFault::Misfit(line)) => {
+            noted.set(Some(RefusedValues::Misfit));
             let text = refusal(alloc, line)?;
             Ok((Outcome::Refused(line), text))
         }
-        Err(CompiledTextFault::Memory) => Err(AllocError),
+        Err(ValuesTextFault::Missing(line)) => {
+            noted.set(Some(RefusedValues::Missing));
+            let text = refusal(alloc, line)?;
+            Ok((Outcome::Refused(line), text))
+        }
+        Err(ValuesTextFault::Memory) => Err(AllocError),
     }
 }

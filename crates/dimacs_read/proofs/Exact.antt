@@ -5,11 +5,13 @@ use Rattle.bee_text.specs.Lines.{unfinished}
 use Rattle.order_ints.specs.declared.cnf.Cnf.{Cnf}
 use Rattle.dimacs_read.specs.declared.fault.CompiledTextFault.{CompiledTextFault}
 use Rattle.dimacs_read.specs.declared.fault.CompiledTextFault.TheVariants.{Form, Memory}
+use Rattle.dimacs_read.specs.declared.fault.ValuesTextFault.{ValuesTextFault}
+use Rattle.dimacs_read.specs.declared.fault.ValuesTextFault.TheVariants as values_fault
 use Rattle.dimacs_out.specs.declared.text.CnfText.{CnfText}
 use Rattle.dimacs_read.specs.Values.{NextValues, AreTold, nothing_told, IsValues, ValuesFail}
 use Rattle.dimacs_read.specs.TextLines.{first_above, IsTextOf}
 use Rattle.dimacs_read.specs.TextSteps.{Draft, nothing_read, held, NextLine, IsComplete, IsAbove, FaultAt, FaultLine, TextFails}
-use Rattle.dimacs_read.specs.Faults.{ValuesFault, TextFaultOf, IsReadAs, FailsAt}
+use Rattle.dimacs_read.specs.Faults.{ValuesFault, TextFaultOf, IsReadAs, FailsAt, AreReadAs, FailAt}
 use Rattle.line_texts.proofs.Leads.{whole_same, whole_fits}
 use Rattle.line_texts.proofs.Fronts.{front_same, misfit_same}
 use Rattle.dimacs_read.proofs.ValuesTell.{FitsTold, next_same, next_fits}
@@ -36,15 +38,17 @@ module _ (cnf : Cnf) (small : cnf.vars < 2 ^ 32) (text : List ℕ) where
   line_same m n p q = misfit_same (NextValues cnf) FitsTold (next_fits cnf) (next_same cnf) AreTold (nothing_told cnf.vars) (start_fits cnf small) (unfinished text) text m n refl p q
 
   module _ {X : Type 0} (view : X → List Bool) where
-    pub values_complete : (r : Result X CompiledTextFault) → IfOk r (λ x. IsValues cnf text (view x)) → IfErr r (ValuesFault cnf text) → (v : List Bool) → IsValues cnf text v → IsReadAs view r v
+    pub values_complete : (r : Result X ValuesTextFault) → IfOk r (λ x. IsValues cnf text (view x)) → IfErr r (ValuesFault cnf text) → (v : List Bool) → IsValues cnf text v → AreReadAs view r v
     values_complete (Ok x) ok err v h = values_same (view x) v ok h
-    values_complete (Err (Form line)) ok err v h = values_fit v line h err
-    values_complete (Err Memory) ok err v h = tt
+    values_complete (Err (values_fault.Misfit line)) ok err v h = values_fit v line h err
+    values_complete (Err (values_fault.Missing line)) ok err v h = values_fit v line h err
+    values_complete (Err values_fault.Memory) ok err v h = tt
 
-    pub values_exact : (r : Result X CompiledTextFault) → IfOk r (λ x. IsValues cnf text (view x)) → IfErr r (ValuesFault cnf text) → (line : ℕ) → ValuesFail cnf text line → FailsAt r line
+    pub values_exact : (r : Result X ValuesTextFault) → IfOk r (λ x. IsValues cnf text (view x)) → IfErr r (ValuesFault cnf text) → (line : ℕ) → ValuesFail cnf text line → FailAt r line
     values_exact (Ok x) ok err line m = values_fit (view x) line ok m
-    values_exact (Err (Form n)) ok err line m = line_same n line err m
-    values_exact (Err Memory) ok err line m = tt
+    values_exact (Err (values_fault.Misfit n)) ok err line m = line_same n line err m
+    values_exact (Err (values_fault.Missing n)) ok err line m = line_same n line err m
+    values_exact (Err values_fault.Memory) ok err line m = tt
 
 -- compiled texts
 

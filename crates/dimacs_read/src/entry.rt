@@ -15,11 +15,10 @@ ghost use Rattle.dimacs_read.specs.declared.entry.Kind.{Kind};
 ghost use Rattle.dimacs_read.specs.Entries.{kind_word, kind_of, tail_words, IsReadableInt, IsReadableValue};
 ghost use Rattle.dimacs_read.specs.TextLines.{IsReadableEntry};
 
-use crate::literal::is;
 use crate::name::is_declarable;
 use crate::steps::{Steps, read_steps};
 use bee_list::Sequence;
-use bee_text::{Words, read_signed, split_words};
+use bee_text::{Words, is, read_signed, split_words};
 use bumblebee_reader::Name;
 use ledger_text::read_atom;
 use name_map::MapEntry;

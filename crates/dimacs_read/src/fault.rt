@@ -2,6 +2,7 @@
 
 ghost use Rattle.std.specs.Prelude.{◌≡◌};
 ghost use Rattle.dimacs_read.specs.declared.fault.CompiledTextFault.TheVariants.{Memory};
+ghost use Rattle.dimacs_read.specs.declared.fault.ValuesTextFault.TheVariants as values_fault;
 
 use std::alloc::{AllocError, AllocFailed};
 
@@ -28,5 +29,24 @@ impl From<AllocError> for CompiledTextFault {
 
     fn from(_e: AllocError) -> CompiledTextFault {
         CompiledTextFault::Memory
+    }
+}
+
+/// Why no values were read. Lines are counted from 1.
+#[derive(Clone, Copy, Debug, PartialEq, Eq)]
+pub enum ValuesTextFault {
+    /// The line of this number is the first that isn't the next.
+    Misfit(u64),
+    /// The line of this number, the one behind the last, is missing: the text ends too early, or without a line feed.
+    Missing(u64),
+    /// Memory was wanting.
+    Memory,
+}
+
+impl From<AllocError> for ValuesTextFault {
+    ghost from_gives = { λ _ e. e ≡ values_fault.Memory };
+
+    fn from(_e: AllocError) -> ValuesTextFault {
+        ValuesTextFault::Memory
     }
 }

@@ -7,8 +7,8 @@
 //! is proved against it.
 //!
 //! What it promises: `read_values` is `Ok` exactly where the bytes are values in form that satisfy
-//! every clause, and then gives them (`read`, `complete`); else it names the first line that fails
-//! (`fault`, `exact`), or memory is wanting. `read_compiled` is the same of compiled texts.
+//! every clause, and then gives them (`read`, `complete`); else it names the first line that fails,
+//! and whether it is missing (`fault`, `exact`), or memory is wanting. `read_compiled` is the same of compiled texts.
 //! `read_laws`: what `write_compiled` gives is read as what was written, and values that are read
 //! give an assignment that the text stands for. `answer_law`: each text is in form or has a first
 //! line that fails.
@@ -34,6 +34,6 @@ mod values;
 
 pub use answer_laws::answer_law;
 pub use compiled::read_compiled;
-pub use fault::CompiledTextFault;
+pub use fault::{CompiledTextFault, ValuesTextFault};
 pub use laws::read_laws;
 pub use values::read_values;

@@ -10,9 +10,9 @@ ghost use Rattle.ledger_text.specs.Steps.{IsReadableStep};
 ghost use Rattle.dimacs_out.specs.CompiledText.{clause_line, clause_words, heading, ledger_line};
 ghost use Rattle.dimacs_read.specs.TextSteps.{IsNumbers};
 
-use crate::literal::{is, read_literal};
+use crate::literal::read_literal;
 use bee_list::Sequence;
-use bee_text::{Words, read_number, split_words};
+use bee_text::{Words, is, read_number, split_words};
 use ledger_text::{Line, read_step};
 use order_ints::Lit;
 use std::alloc::{AllocError, Global};

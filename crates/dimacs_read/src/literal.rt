@@ -9,13 +9,6 @@ ghost use Rattle.ledger_text.specs.Words.{literal_word};
 use bee_text::read_number;
 use order_ints::Lit;
 
-/// Whether a word is these bytes.
-pub(crate) fn is(word: &[u8], bytes: &[u8]) -> bool
-    ensures { IsTrue result ↔ (word.now ≡ bytes.now) }
-{
-    word == bytes
-}
-
 /// The literal of a variable from 1 to `vars` whose decimal the digits are.
 fn read_variable(digits: &[u8], positive: bool, vars: u32) -> Option<Lit>
     ensures read { IfSome result (λ l. LitBelow (vars + 1) l × (digits.now ≡ decimal l.var)

@@ -3,7 +3,7 @@
 ghost use Rattle.std.specs.Prelude.{◌↔◌, IsTrue};
 ghost use Rattle.bumblebee_reader.specs.Names.{IsDeclarable};
 
-use crate::literal::is;
+use bee_text::is;
 use bumblebee_reader::is_name;
 
 /// Whether a word is a name that may be declared.

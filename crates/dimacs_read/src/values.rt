@@ -5,12 +5,12 @@ ghost use Rattle.std.specs.Prelude.{IfSome, IfOk, IfErr};
 ghost use Rattle.bee_text.specs.Gaps.{words_of};
 ghost use Rattle.dimacs_read.specs.Values.{Known, Told, told, nothing_told, Tell, IsTold, Says, NextValues, IsValues};
 ghost use Rattle.dimacs_read.specs.Values.{ValuesFail};
-ghost use Rattle.dimacs_read.specs.Faults.{ValuesFault, IsReadAs, FailsAt};
+ghost use Rattle.dimacs_read.specs.Faults.{ValuesFault, AreReadAs, FailAt};
 
-use crate::fault::CompiledTextFault;
+use crate::fault::ValuesTextFault;
 use crate::known::KnownValues;
-use crate::literal::{is, read_literal};
-use bee_text::next_word;
+use crate::literal::read_literal;
+use bee_text::{is, next_word};
 use line_texts::{LineTaken, LineTaker, TextEnd, read_lines};
 use order_ints::Cnf;
 use std::alloc::{AllocError, Global};
@@ -201,26 +201,26 @@ impl LineTaker for ValuesDraft {
 }
 
 /// The truth values that a text tells, or the first line that fails.
-fn read_told(alloc: Global, text: &[u8], cnf: &Cnf) -> Result<Vec<bool>, CompiledTextFault>
+fn read_told(alloc: Global, text: &[u8], cnf: &Cnf) -> Result<Vec<bool>, ValuesTextFault>
     ensures read { IfOk result (λ values. IsValues cnf.now text.now values.items) }
     ensures fault { IfErr result (ValuesFault cnf.now text.now) }
 {
     let mut draft = ValuesDraft::new(alloc, cnf.vars)?;
     match read_lines(alloc, text, cnf, &mut draft)? {
         TextEnd::Whole => Ok(draft.into_values()),
-        TextEnd::Misfit(line, _) => Err(CompiledTextFault::Form(line)),
-        TextEnd::Missing(line) => Err(CompiledTextFault::Form(line)),
+        TextEnd::Misfit(line, _) => Err(ValuesTextFault::Misfit(line)),
+        TextEnd::Missing(line) => Err(ValuesTextFault::Missing(line)),
     }
 }
 
 /// The truth values that a text tells, that of variable 1 first, or the first line that fails. The text is looked
 /// at once, and takes two bytes of memory for each variable; the clauses are tested once, at the end of the values.
-pub fn read_values(alloc: Global, text: &[u8], cnf: &Cnf) -> Result<Vec<bool>, CompiledTextFault>
+pub fn read_values(alloc: Global, text: &[u8], cnf: &Cnf) -> Result<Vec<bool>, ValuesTextFault>
     ensures read { IfOk result (λ values. IsValues cnf.now text.now values.items) }
     ensures fault { IfErr result (ValuesFault cnf.now text.now) }
     ensures complete { (values : List Bool) → IsValues cnf.now text.now values
-        → IsReadAs (λ v. v.items) result values }
-    ensures exact { (line : ℕ) → ValuesFail cnf.now text.now line → FailsAt result line }
+        → AreReadAs (λ v. v.items) result values }
+    ensures exact { (line : ℕ) → ValuesFail cnf.now text.now line → FailAt result line }
 {
     // A field that is read tells the proof its range.
     let _vars = cnf.vars;

@@ -10,9 +10,9 @@ ghost use Rattle.ledger_check.specs.declared.told.Told.{Told};
 ghost use Rattle.ledger_check.specs.Items.{told_word, HaveNumbers, IsVerdictLine, IsToldValue};
 
 use crate::told::Told;
-use crate::words::{is, read_bounds, read_told, read_words};
+use crate::words::{read_bounds, read_told, read_words};
 use answer_document::{Bounds, Verdict};
-use bee_text::split_words;
+use bee_text::{is, split_words};
 
 /// Whether the line that a version begins with is that of two objectives; `None` where it is none.
 pub(crate) fn read_version(line: &[u8]) -> Option<bool>

@@ -16,9 +16,9 @@ use crate::bounds::stated;
 use crate::fault::Why;
 use crate::part::Part;
 use crate::reading::Reading;
-use crate::words::is;
 use answer_document::{Bounds, Verdict};
 use bee_list::Sequence;
+use bee_text::is;
 use model_meaning::{Assignment, Goal, Model, first_broken, in_domains};
 use std::alloc::AllocError;
 

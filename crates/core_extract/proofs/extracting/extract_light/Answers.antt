@@ -4,7 +4,7 @@ use Rattle.core_extract.specs.Parts.{whole_of, part_of}
 use Rattle.core_extract.specs.Extracted.{IsReply}
 use Rattle.core_extract.proofs.Divisions.{new-whole, new-fit}
 use Rattle.core_extract.proofs.Attempts.{anew-as, reply-as, reduced-anew}
-use Rattle.core_extract.proofs.Cores.{first-spent, first-solved}
+use Rattle.core_extract.proofs.Conflicts.{first-spent, first-solved}
 use Rattle.core_extract.proofs.extracting.extract_light.Goals as goal
 
 pub question-requires-clause-fit : goal.question-requires-clause-fit

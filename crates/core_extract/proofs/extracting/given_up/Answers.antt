@@ -1,5 +1,5 @@
 use Rattle.core_extract.specs.Parts.{whole_of}
-use Rattle.core_extract.proofs.Cores.{spent-from}
+use Rattle.core_extract.proofs.Conflicts.{spent-from}
 use Rattle.core_extract.proofs.extracting.given_up.Goals as goal
 
 pub returns : goal.returns

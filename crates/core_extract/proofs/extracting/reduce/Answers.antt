@@ -3,7 +3,7 @@ use Rattle.model_meaning.specs.declared.model.Model.{Model}
 use Rattle.model_parts.specs.Only.{numbers_of}
 use Rattle.core_extract.proofs.Attempts.{choice-as}
 use Rattle.core_extract.proofs.Turns.{spent-of}
-use Rattle.core_extract.proofs.Cores.{extracts-as, extracted-as}
+use Rattle.core_extract.proofs.Conflicts.{extracts-as, extracted-as}
 use Rattle.core_extract.proofs.extracting.reduce.Goals as goal
 
 pub settle_all-requires-clause-reduced : goal.settle_all-requires-clause-reduced

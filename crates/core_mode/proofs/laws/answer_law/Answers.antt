@@ -1,4 +1,4 @@
-use Rattle.core_models.proofs.Faults.{either}
+use Rattle.conflict_models.proofs.Faults.{either}
 use Rattle.core_mode.proofs.laws.answer_law.Goals as goal
 
 pub returns : goal.returns

@@ -1,5 +1,5 @@
 use Rattle.std.proofs.Common.{length}
-use Rattle.core_text.specs.CoreDocuments.{AreNumbers}
+use Rattle.conflict_text.specs.ConflictDocuments.{AreNumbers}
 use Rattle.core_mode.proofs.making.fit.Given as goal
 
 abbrev pub invariant-loop-number : goal.invariant-loop-number

@@ -5,8 +5,8 @@ use Rattle.dimacs_read.proofs.lines.read_numbers.Goals as goal
 
 pub returns-in-Some : goal.returns-in-Some
 returns-in-Some c =
-    let first = c.is.ensures.0 c.if-is.true in
-    let second = c.is-then-is.ensures.0 c.if-is-2.true in
+    let first = c.is.ensures.same.0 c.if-is.true in
+    let second = c.is-then-is.ensures.same.0 c.if-is-2.true in
     let cut = c.in_ok-next_word.ensures.piece ∙ (λ i. first i ∷ c.in_ok-next_word-2.ensures.piece i) ∙ ap (λ w. codes "p" ∷ w ∷ c.next_word-then-is.new.self) second in
     record {
       spelled = sym c.split_words-words.ensures.joined ∙ ap join_words (cut ∙ ap (λ r. codes "p" ∷ codes "cnf" ∷ r) c.in-Some.ensures.0);

@@ -5,7 +5,7 @@ use Rattle.ledger_check.proofs.OpeningLaws.{best-ledger, a-best}
 use Rattle.ledger_check.proofs.reading.Reading.best_line.Goals as goal
 
 pub returns-then-is-clause-takes : goal.returns-then-is-clause-takes
-returns-then-is-clause-takes c = best-ledger c.args.model.now (standing_of c.args.self.now) c.args.line.now _ c.requires (c.is.ensures.0 c.if-is.true) refl
+returns-then-is-clause-takes c = best-ledger c.args.model.now (standing_of c.args.self.now) c.args.line.now _ c.requires (c.is.ensures.same.0 c.if-is.true) refl
 
 pub returns-in-Some-clause-takes : goal.returns-in-Some-clause-takes
 returns-in-Some-clause-takes c =

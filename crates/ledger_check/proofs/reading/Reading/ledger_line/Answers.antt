@@ -4,7 +4,7 @@ use Rattle.ledger_check.proofs.reading.Reading.ledger_line.Goals as goal
 
 pub returns-then-is-clause-takes : goal.returns-then-is-clause-takes
 returns-then-is-clause-takes c =
-    ledger-proof c.args.model.now (standing_of c.args.self.now) c.args.line.now (standing_of c.begin_proof.new.self) c.requires c.in_ok-begun.begun (c.is.ensures.0 c.if-is.true) c.in_ok-begun.ensures.took
+    ledger-proof c.args.model.now (standing_of c.args.self.now) c.args.line.now (standing_of c.begin_proof.new.self) c.requires c.in_ok-begun.begun (c.is.ensures.same.0 c.if-is.true) c.in_ok-begun.ensures.took
 
 pub returns-in-Some-clause-takes : goal.returns-in-Some-clause-takes
 returns-in-Some-clause-takes c =

@@ -1,3 +1,0 @@
-pub mod Ends
-mod Answered
-pub mod Refusals

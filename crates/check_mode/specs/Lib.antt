@@ -1,2 +1,0 @@
-pub mod CheckMode
-pub mod AnswerLaw

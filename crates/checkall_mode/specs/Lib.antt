@@ -1,2 +1,0 @@
-pub mod CheckAllMode
-pub mod AnswerLaw

@@ -1,2 +1,0 @@
-pub mod CheckCoreMode
-pub mod AnswerLaw

@@ -1,0 +1,3 @@
+pub mod ConflictLines
+pub mod ConflictSays
+pub mod ConflictDocuments

@@ -1,5 +1,0 @@
-use Rattle.core_text.proofs.OneLine.{one-next}
-use Rattle.core_text.proofs.laws.one_line_law.Goals as goal
-
-pub returns : goal.returns
-returns c = one-next

@@ -1,5 +1,0 @@
-use Rattle.core_text.proofs.WholeText.{written-law}
-use Rattle.core_text.proofs.laws.written_law.Goals as goal
-
-pub returns : goal.returns
-returns c = written-law

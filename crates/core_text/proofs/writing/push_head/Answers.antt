@@ -1,8 +1,0 @@
-use Rattle.std.proofs.Common.{[], ◌∷◌}
-use Rattle.core_text.specs.CoreLines.{version_line, verdict_line}
-use Rattle.core_text.proofs.Written.{two}
-use Rattle.core_text.proofs.writing.push_head.Goals as goal
-
-pub returns : goal.returns
-returns c =
-    two c.args.out.now.items c.push_bytes.new.out.items _ (version_line ∷ []) (verdict_line c.args.verdict ∷ []) c.in_ok-push_bytes.ensures.ok c.in_ok-push_verdict_line.ensures

@@ -1,3 +1,0 @@
-pub mod CoreLines
-pub mod CoreSays
-pub mod CoreDocuments

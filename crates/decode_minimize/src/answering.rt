@@ -51,6 +51,15 @@ pub struct AnsweredModel {
     pub decls: Sequence<Decl>,
 }
 
+/// A model that is used up, and the value that is wished for each of its declared names, where one is.
+#[derive(Drop)]
+pub struct WishedModel {
+    /// The model.
+    pub model: Model,
+    /// A value of each name, in the order of declarations, or none. It may be shorter than these.
+    pub wish: Vec<Option<i64>>,
+}
+
 /// What the clauses of a state are solved to, and their size.
 #[derive(Drop)]
 struct SolvedState {
@@ -65,12 +74,13 @@ struct SizedDocument {
     size: CnfSize,
 }
 
-/// A model that is lowered, with its names and what is sought of them.
+/// A model that is lowered, with its names, what is sought of them, and what is wished for.
 #[derive(Drop)]
 struct Posed<'a> {
     lowered: Lowered,
     decls: &'a [Decl],
     goal: Goal,
+    wish: &'a [Option<i64>],
 }
 
 /// Solves the clauses of the last state of a compilation. At bottom there is no solution, and nothing is to be derived:
@@ -128,6 +138,7 @@ fn answer_lowered<F: Oracle<L>, L: Ledger, W: SolutionWatcher>(
         lowered,
         decls,
         goal,
+        wish,
     } = posed;
     let Lowered { vars, map, cores } = lowered;
     let state = State::start(alloc, vars, cores.into_vec())?;
@@ -140,6 +151,7 @@ fn answer_lowered<F: Oracle<L>, L: Ledger, W: SolutionWatcher>(
         goal,
         map: &map,
         view: compilation.state.view(),
+        wish,
     };
     let made = solve_state(&compilation.state, &names, options, watcher)?;
     Ok(SizedDocument {
@@ -185,6 +197,7 @@ pub fn answer_watched<F: Oracle<L>, L: Ledger, W: SolutionWatcher>(
         lowered,
         decls: model.decls.as_slice(),
         goal: model.goal,
+        wish: &[],
     };
     let answered = answer_lowered(alloc, posed, options, oracle, steps, watcher)?;
     Ok(answered.document)
@@ -209,7 +222,49 @@ pub fn answer<F: Oracle<L>, L: Ledger>(
 }
 
 /// The answer to a model that is used up: each statement is let go as soon as it is lowered, and the declarations are
-/// given back. Else it is as `answer_watched`.
+/// given back. Where any solution is sought, the values that are wished for are decided first, so that one with these
+/// is found where there is one and the search doesn't take long; nothing is promised of that. Else it is as
+/// `answer_watched`.
+pub fn answer_wished<F: Oracle<L>, L: Ledger, W: SolutionWatcher>(
+    alloc: Global,
+    asked: WishedModel,
+    options: SearchOptions,
+    oracle: F,
+    steps: &mut Steps<L>,
+    watcher: &mut W,
+) -> Result<AnsweredModel, LowerFault>
+    requires typed { WellTyped asked.model }
+    requires limits { InLimits asked.model }
+    requires budget { IsBudget options.budget }
+    requires heard { AreHeard W.heard asked.model }
+    ensures light { IfOk result (λ a. weight_of asked.model ≤ most_weight) }
+    ensures answer { IfOk result (λ a. IsAnswer F.told asked.model options a.document steps.old steps.new) }
+    ensures decls { IfOk result (λ a. a.decls ≡ asked.model.decls) }
+
+    // The size is that of the CNF of the state to which the ledger leads.
+    ensures size { IfOk result (λ a. (last : Kernel)
+        → IsCompilation F.told (start_of asked.model) a.document.ledger last → a.size ≡ size_of (cnf_of last)) }
+    ensures heavy { IfErr result (λ e. IsFaultOf e asked.model) }
+{
+    let WishedModel { model, wish } = asked;
+    let goal = model.goal;
+    let held = lower_owned(alloc, model)?;
+    let LoweredModel { lowered, decls } = held;
+    let posed = Posed {
+        lowered,
+        decls: decls.as_slice(),
+        goal,
+        wish: wish.as_slice(),
+    };
+    let answered = answer_lowered(alloc, posed, options, oracle, steps, watcher)?;
+    Ok(AnsweredModel {
+        document: answered.document,
+        size: answered.size,
+        decls,
+    })
+}
+
+/// The answer to a model that is used up, as by `answer_wished`, where nothing is wished for.
 pub fn answer_owned_watched<F: Oracle<L>, L: Ledger, W: SolutionWatcher>(
     alloc: Global,
     model: Model,
@@ -231,18 +286,9 @@ pub fn answer_owned_watched<F: Oracle<L>, L: Ledger, W: SolutionWatcher>(
         → a.size ≡ size_of (cnf_of last)) }
     ensures heavy { IfErr result (λ e. IsFaultOf e model) }
 {
-    let goal = model.goal;
-    let held = lower_owned(alloc, model)?;
-    let LoweredModel { lowered, decls } = held;
-    let posed = Posed {
-        lowered,
-        decls: decls.as_slice(),
-        goal,
+    let asked = WishedModel {
+        model,
+        wish: Vec::new(alloc),
     };
-    let answered = answer_lowered(alloc, posed, options, oracle, steps, watcher)?;
-    Ok(AnsweredModel {
-        document: answered.document,
-        size: answered.size,
-        decls,
-    })
+    answer_wished(alloc, asked, options, oracle, steps, watcher)
 }

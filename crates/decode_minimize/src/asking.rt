@@ -8,12 +8,14 @@ ghost use Rattle.learning_solver.specs.Log.{additions};
 ghost use Rattle.learning_solver.specs.Outcome.{most_learned};
 ghost use Rattle.decode_minimize.specs.Rounds.{IsAsked, IsRound};
 
+use crate::solved::Names;
+use crate::wish::wished_literals;
 use bee_list::Sequence;
 use learning_solver::{Aim, Found, Solver};
 use order_ints::{Atom, Cnf, Lit};
 use search_options::SearchOptions;
 use search_watcher::Watcher;
-use std::alloc::{AllocError, Global};
+use std::alloc::AllocError;
 
 /// How a search for something better ended.
 #[derive(Clone, Copy)]
@@ -33,15 +35,17 @@ pub enum Round {
     Last(Ended),
 }
 
-/// A solver of which any values are asked first.
-pub fn solver_of<'a>(alloc: Global, cnf: &'a Cnf) -> Result<Solver<'a>, AllocError>
+/// A solver of which any values are asked first. It decides first what is wished for.
+pub fn solver_of<'a>(names: &Names<'_>, cnf: &'a Cnf) -> Result<Solver<'a>, AllocError>
     requires vars { cnf.now.vars ≤ 2 ^ 27 }
     requires in_range { InRange cnf.now }
     requires differ { AreApartIn cnf.now }
     ensures { IfOk result (λ s. s ≡ record { cnf = cnf.entry.now; log = [] }) }
 {
-    let mut solver = Solver::with(alloc, cnf)?;
+    let mut solver = Solver::with(names.alloc, cnf)?;
     solver.set_aim(Aim::Solution);
+    let wish = wished_literals(names)?;
+    solver.set_wish(wish.as_slice())?;
     Ok(solver)
 }
 

@@ -8,7 +8,7 @@
 //! round that finds values leaves fewer, and their number bounds the rounds. A second objective
 //! gets a new solver over the same clauses and one more, that the first is no worse.
 //!
-//! What `answer` and `answer_owned_watched` promise: the document's text is a valid answer (`valid`),
+//! What `answer`, `answer_owned_watched` and `answer_wished` promise: the document's text is a valid answer (`valid`),
 //! so what it says is true by `claim_law`; the ledger is that of a whole compilation
 //! (`compilation`, `solutions`); derivations add new clauses and delete only those (`fresh`,
 //! `second`), within the budget (`within`), which is spent where the verdict is UNKNOWN (`spent`);
@@ -25,7 +25,7 @@
 //! every solution of the model may: so nothing else is told. A watcher changes nothing that is answered.
 //!
 //! How a round searches is `learning_solver`'s; which bound it asks for is `ask_bound`, here, and which
-//! values it decides first is `Targets`, of which nothing is promised.
+//! values it decides first is `Targets`, and in the first round `wish`, of which nothing is promised.
 //! Clauses, ledger and derivations go into the document as they are; nothing is made again for it.
 #![tactic(auto)]
 
@@ -41,7 +41,11 @@ mod solving;
 mod targets;
 mod telling;
 mod watching;
+mod wish;
 
-pub use answering::{AnsweredModel, CnfSize, answer, answer_owned_watched, answer_watched};
+pub use answering::{
+    AnsweredModel, CnfSize, WishedModel, answer, answer_owned_watched, answer_watched,
+    answer_wished,
+};
 pub use search_options::SearchOptions as Options;
 pub use watching::SolutionWatcher;

@@ -56,7 +56,7 @@ pub fn first_rounds<W: SolutionWatcher>(
     requires heard { IsHeard W.heard cnf.now sought.now.names }
     ensures { IfOk result (IsFirst cnf.now sought.now options) }
 {
-    let mut seeker = Seeker::with(sought.names.alloc, cnf)?;
+    let mut seeker = Seeker::with(&sought.names, cnf)?;
     match seeker.ask(sought, Atom::False, options, watcher)? {
         ValuedRound::Last(Ended::Shown) => Ok(First::Refuted(seeker.into_log().into_lines())),
         ValuedRound::Last(Ended::Spent) => Ok(First::GivenUp(seeker.into_log().into_lines())),

@@ -15,6 +15,7 @@ ghost use Rattle.decode_minimize.specs.Incumbents.{incumbent_behind, round_of, I
 
 use crate::asking::{Ended, Round, ask_bound, solver_of};
 use crate::improving::{Best, Sought, best_of};
+use crate::solved::Names;
 use crate::targets::Targets;
 use bee_list::Sequence;
 use learning_solver::{Aim, Solver};
@@ -50,19 +51,19 @@ pub enum ValuedRound {
 }
 
 impl<'a> Seeker<'a> {
-    /// A seeker of which no solution is known.
-    pub fn with(alloc: Global, cnf: &'a Cnf) -> Result<Seeker<'a>, AllocError>
+    /// A seeker of which no solution is known. Its first round decides first what is wished for.
+    pub fn with(names: &Names<'_>, cnf: &'a Cnf) -> Result<Seeker<'a>, AllocError>
         requires vars { cnf.now.vars ≤ 2 ^ 27 }
         requires in_range { InRange cnf.now }
         requires differ { AreApartIn cnf.now }
         ensures solver { IfOk result (λ s. s.solver ≡ record { cnf = cnf.entry.now; log = [] }) }
         ensures incumbent { IfOk result (λ s. s.incumbent ≡ None) }
     {
-        let solver = solver_of(alloc, cnf)?;
+        let solver = solver_of(names, cnf)?;
         Ok(Seeker {
             solver,
             incumbent: None,
-            targets: Targets::new(alloc),
+            targets: Targets::new(names.alloc),
         })
     }
 
@@ -84,6 +85,7 @@ impl<'a> Seeker<'a> {
 
     /// Where a solution is known, saved phases are near it, and the last round, which finds none, is the longest. Much
     /// better values are decided first, where the search restarts: without restarts it couldn't leave them again.
+    /// Nothing is wished for any longer.
     fn set_aim(&mut self, sought: &Sought<'_>, options: SearchOptions) -> Result<(), AllocError>
         requires { IsObjective (length sought.now.view.now + 1) sought.now.integer.now }
         ensures solver { self.new.solver ≡ self.old.solver }
@@ -96,9 +98,8 @@ impl<'a> Seeker<'a> {
         if options.restart {
             self.targets.give_up(self.solver.given_up());
             self.targets.aim(sought, number)?;
-            self.solver.set_targets(self.targets.lits())?;
         }
-        Ok(())
+        self.solver.set_targets(self.targets.lits())
     }
 
     /// Asks for a solution that breaks a bound, which is that of the incumbent, where there is one: so what is found is

@@ -24,6 +24,8 @@ pub struct Names<'a> {
     pub map: &'a NameMap,
     /// The label of each variable, that of variable 1 first.
     pub view: &'a [Atom],
+    /// The value that is wished for each declared name, where one is.
+    pub wish: &'a [Option<i64>],
 }
 
 /// An answer without its ledger.

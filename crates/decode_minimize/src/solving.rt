@@ -97,7 +97,7 @@ fn solve_any<W: Watcher>(
     requires { IsProblem (problem_of names.now cnf.now) }
     ensures { IfOk result (IsAnySolved (problem_of names.now cnf.now) options) }
 {
-    let mut solver = solver_of(names.alloc, cnf)?;
+    let mut solver = solver_of(names, cnf)?;
     match ask_bound(&mut solver, Atom::False, options, watcher)? {
         Round::Last(Ended::Shown) => Ok(refuted(solver.into_log())),
         Round::Last(Ended::Spent) => Ok(given_up(solver.into_log(), options)),

@@ -1,5 +1,5 @@
 //! What a round aims at: values much better than the best one so far. A round asks for any better value, but decides
-//! first that the value is better by half of the gap to the best one that is hoped for, then by a quarter, and so on.
+//! first that the value is better by a third of the gap to the best one that is hoped for, then by a ninth, and so on.
 //! So few rounds lead to a good value, and nothing is promised of it. A target that was given up is hoped for no more,
 //! unless something better is found.
 
@@ -10,6 +10,10 @@ use crate::improving::Sought;
 use crate::objective::{Direction, bound_of};
 use order_ints::{Atom, Lit, resolve};
 use std::alloc::{AllocError, Global};
+
+/// The first target is better by the gap divided by this number, each further one by so many times less. A nearer first
+/// target is refuted less often, a further one takes fewer rounds.
+const SHARE: u64 = 3;
 
 /// The targets of a round.
 #[derive(Drop)]
@@ -101,8 +105,8 @@ impl Targets {
         let mut by = number.abs_diff(self.hoped_for(sought, number));
         self.numbers.clear();
         self.lits.clear();
-        'halves: for _ in 0..u64::BITS {
-            by /= 2;
+        'thirds: for _ in 0..u64::BITS {
+            by /= SHARE;
             if by == 0 {
                 break;
             }

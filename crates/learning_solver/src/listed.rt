@@ -1,12 +1,12 @@
 //! Literals that are decided first, as a list gives them. A search that is to go through all solutions decides in one
 //! order throughout, so that each new clause, which rules the last solution out, is met where that one branched off.
 //! Or they are targets, of which each says less than the one before: the first one is given up where it is refuted, or
-//! where it was decided in many conflicts.
+//! where it was decided in many conflicts. Or they are wished for together, until there were many conflicts.
 
 ghost use Rattle.std.specs.Prelude.{IfSome};
 ghost use Rattle.learning_solver.specs.Order.{IsFreeIn};
 
-use crate::tunables::{PATIENCE, PATIENCE_PARTS};
+use crate::tunables::{PATIENCE, PATIENCE_PARTS, WISH_PATIENCE};
 use clause_rings::ClauseDb;
 use order_ints::Lit;
 use std::alloc::{AllocError, Global};
@@ -23,6 +23,8 @@ pub struct Listed {
     stood: u64,
     /// How many conflicts there were.
     conflicts: u64,
+    /// Where they are wished for together, at how many conflicts all are given up.
+    wished_until: Option<u64>,
 }
 
 impl Listed {
@@ -34,6 +36,7 @@ impl Listed {
             start: 0,
             stood: 0,
             conflicts: 0,
+            wished_until: None,
         }
     }
 
@@ -46,6 +49,7 @@ impl Listed {
             start: 0,
             stood: 0,
             conflicts: 0,
+            wished_until: None,
         })
     }
 
@@ -55,7 +59,15 @@ impl Listed {
         self.start = 0;
         self.place = 0;
         self.stood = 0;
+        self.wished_until = None;
         self.lits.extend_from_slice(first)
+    }
+
+    /// Takes other literals in place of these, which are wished for together.
+    pub fn wish(&mut self, first: &[Lit]) -> Result<(), AllocError> {
+        self.replace(first)?;
+        self.wished_until = Some(self.conflicts.saturating_add(WISH_PATIENCE));
+        Ok(())
     }
 
     /// How many literals were given up.
@@ -89,10 +101,19 @@ impl Listed {
         PATIENCE.saturating_add(self.conflicts / PATIENCE_PARTS)
     }
 
-    /// Counts a conflict. The first literal is given up where it was decided in many of them, or where it is false
-    /// whatever is decided behind the assumption.
+    /// Counts a conflict, and gives up what is due by then.
     pub fn note_conflict(&mut self, db: &ClauseDb) {
         self.conflicts = self.conflicts.saturating_add(1);
+        match self.wished_until {
+            Some(end) if self.conflicts < end => {}
+            Some(_) => self.start = self.lits.len(),
+            None => self.note_target(db),
+        }
+    }
+
+    /// The first literal is given up where it was decided in many conflicts, or where it is false whatever is decided
+    /// behind the assumption.
+    fn note_target(&mut self, db: &ClauseDb) {
         let Some(l) = self.lits.get(self.start) else {
             return;
         };

@@ -180,6 +180,14 @@ impl Order {
         self.listed.replace(targets)
     }
 
+    /// Decides these literals before all others from here on, in place of those of before. They are given up together,
+    /// after many conflicts.
+    pub fn set_wish(&mut self, wish: &[Lit]) -> Result<(), AllocError>
+        ensures { self.new ≡ self.old }
+    {
+        self.listed.wish(wish)
+    }
+
     /// How many of the literals that are decided first were given up.
     pub fn given_up(&self) -> usize {
         self.listed.given_up()

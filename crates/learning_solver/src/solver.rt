@@ -100,6 +100,14 @@ impl<'a> Solver<'a> {
         self.search.order.set_targets(targets)
     }
 
+    /// Decides these literals before all others from here on, in place of those of before. They are given up together,
+    /// after many conflicts. Literals of other variables than the CNF's are passed over. It copies the list.
+    pub fn set_wish(&mut self, wish: &[Lit]) -> Result<(), AllocError>
+        ensures { self.new ≡ self.old }
+    {
+        self.search.order.set_wish(wish)
+    }
+
     /// How many of the literals that are decided first were given up.
     pub fn given_up(&self) -> usize {
         self.search.order.given_up()

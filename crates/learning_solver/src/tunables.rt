@@ -41,3 +41,6 @@ pub const PATIENCE: u64 = 20;
 
 /// And in one of so many parts of all conflicts more.
 pub const PATIENCE_PARTS: u64 = 32;
+
+/// After how many conflicts literals that are wished for are no longer decided first.
+pub const WISH_PATIENCE: u64 = 5_000;

@@ -34,6 +34,7 @@ mod deciding;
 mod deletable;
 mod ending;
 mod found;
+mod heap;
 mod laws;
 mod learning;
 mod lesson;

@@ -12,10 +12,11 @@ ghost use Rattle.index_ring.specs.Lists.{IsRings, Stands, list_of, first_in, no_
 ghost use Rattle.literal_trail.specs.Trail.{entry_of};
 ghost use Rattle.learning_solver.specs.Order.{IsRing, IsFreeIn, AllGiven};
 
+use crate::heap::Heap;
 use crate::listed::Listed;
 use crate::phases::{Aim, Phases};
 use crate::profile::Profile;
-use crate::tunables::{FIRST_GAIN, GAIN_PARTS, LOOKED_AT, MOST_GAIN, MOST_PLACES, SCALE};
+use crate::tunables::{FIRST_GAIN, GAIN_PARTS, MOST_GAIN, SCALE};
 use clause_rings::ClauseDb;
 use index_ring::Rings;
 use order_ints::Lit;
@@ -28,6 +29,7 @@ pub struct Order {
     vars: u32,
     ring: Rings,
     activity: Vec<u64>,
+    heap: Heap,
     phases: Phases,
     gain: u64,
     /// No variable before this one is free, as far as is known; 0 for the front.
@@ -88,53 +90,17 @@ fn first_free(ring: &Rings, db: &ClauseDb, from: Option<u32>) -> Option<u32>
     None
 }
 
-/// The more active of two variables, the first where they are equally active.
-fn livelier(activity: &[u64], v: u32, w: u32) -> u32
-    requires first { v < length activity.now }
-    requires second { w < length activity.now }
-    ensures { (result ≡ v) ⊎ (result ≡ w) }
+/// The most active free variable of the heap. Those before it leave the heap.
+fn most_active(heap: &mut Heap, activity: &[u64], db: &ClauseDb) -> Option<u32>
+    ensures { IfSome result (IsFreeIn db.now.trail) }
 {
-    if activity[w as usize] > activity[v as usize] {
-        w
-    } else {
-        v
-    }
-}
-
-/// The most active of the first free variables of the ring, from one of them on.
-fn most_active(ring: &Rings, activity: &[u64], db: &ClauseDb, first: u32) -> u32
-    requires ring { IsRing db.now.trail.vars ring.now }
-    requires activity { length activity.now ≡ db.now.trail.vars + 1 }
-    requires first { IsFreeIn db.now.trail first }
-    ensures { IsFreeIn db.now.trail result }
-{
-    let mut best = first;
-    let mut met = 1u32;
-    let mut at = ring.after(first);
-    'places: for _ in 0..MOST_PLACES {
-        let Some(v) = at else { break };
-        if is_free(db, v) {
-            best = livelier(activity, best, v);
-            met += 1;
-            if met >= LOOKED_AT {
-                return best;
-            }
+    for _ in 0..db.vars() {
+        let v = heap.pop(activity)?;
+        if v > 0 && v <= db.vars() && db.value(v).is_none() {
+            return Some(v);
         }
-        at = ring.after(v);
     }
-    best
-}
-
-/// Makes a variable the first of the ring.
-fn move_to_front(ring: &mut Rings, vars: u32, v: u32)
-    requires ring { IsRing vars ring.old }
-    requires low { 1 ≤ v }
-    requires high { v ≤ vars }
-    ensures { IsRing vars ring.new }
-{
-    let _vars = vars;
-    ring.unlink(v);
-    ring.push_front(0, v);
+    None
 }
 
 impl Order {
@@ -146,12 +112,14 @@ impl Order {
         let places = vars as usize + 1;
         let mut ring = Rings::with(alloc, 1, vars + 1)?;
         let activity = vec![in alloc; 0; places]?;
+        let heap = Heap::with(alloc, vars)?;
         let phases = Phases::with(alloc, vars)?;
         push_all(&mut ring, vars);
         Ok(Order {
             vars,
             ring,
             activity,
+            heap,
             phases,
             gain: FIRST_GAIN,
             start: 0,
@@ -208,12 +176,13 @@ impl Order {
         if let Some(l) = self.listed.next(db) {
             return Some(l);
         }
-        let first = self.first(db)?;
-        self.start = first;
-        let var = match self.profile {
-            Profile::Activity => most_active(&self.ring, self.activity.as_slice(), db, first),
-            Profile::InOrder => first,
-        };
+        if matches!(self.profile, Profile::Activity)
+            && let Some(var) = most_active(&mut self.heap, self.activity.as_slice(), db)
+        {
+            return Some(Lit::of(var, self.phases.of(var)));
+        }
+        let var = self.first(db)?;
+        self.start = var;
         Some(Lit::of(var, self.phases.of(var)))
     }
 
@@ -252,37 +221,41 @@ impl Order {
         ensures { self.new ≡ self.old }
     {
         self.phases.save(l);
+        self.heap.put(self.activity.as_slice(), l.var);
     }
 
     /// Bumps the variables of a conflict, and puts them in front, the most active one first. It sorts them.
-    pub fn bump(&mut self, db: &ClauseDb, bumped: &mut Vec<u32>)
+    pub fn bump(&mut self, db: &ClauseDb, bumped: &[u32])
         ensures { self.new ≡ self.old }
     {
         self.phases.note_conflict(db);
         self.listed.note_conflict(db);
-        let activity = self.activity.as_slice();
-        bumped.sort_unstable_by_key(|v| activity.get(*v as usize).copied());
         for v in bumped.iter() {
-            if *v > 0 && *v <= self.vars {
-                self.put_in_front(*v);
-            }
+            self.raise(*v);
         }
         self.gain = self.gain.saturating_add(self.gain / GAIN_PARTS);
         if self.gain > MOST_GAIN {
             self.scale_down();
         }
-        self.start = 0;
     }
 
-    /// Bumps a variable, and puts it in front.
-    fn put_in_front(&mut self, v: u32)
-        requires low { 1 ≤ v }
-        requires high { v ≤ self.old }
+    /// Makes a variable more active.
+    fn raise(&mut self, v: u32)
         ensures { self.new ≡ self.old }
     {
-        move_to_front(&mut self.ring, self.vars, v);
-        let place = v as usize;
-        self.activity[place] = self.activity[place].saturating_add(self.gain);
+        if let Some(activity) = self.activity.get_mut(v as usize) {
+            *activity = activity.saturating_add(self.gain);
+        }
+        self.heap.bump(self.activity.as_slice(), v);
+    }
+
+    /// Puts all variables back, for another search.
+    pub fn refill(&mut self)
+        ensures { self.new ≡ self.old }
+    {
+        for v in 1..self.vars + 1 {
+            self.heap.put(self.activity.as_slice(), v);
+        }
     }
 
     /// Makes all activities smaller, and the gain.

@@ -73,7 +73,8 @@ impl<'a> Search<'a> {
         requires { IsSearch self }
         ensures { result ≡ self.entry.cnf.now.vars }
     {
-        let Search { order, .. } = self;
+        let Search { mut order, .. } = self;
+        order.refill();
         order
     }
 

@@ -102,6 +102,9 @@ class Model:
         self.penalties: list[tuple[int, Truth]] = []
         self.goal: Optional[Goal] = None
 
+    def __repr__(self) -> str:
+        return f"<Model of {len(self.variables)} variables and {len(self.constraints)} constraints>"
+
     if not TYPE_CHECKING:
 
         def __getattr__(self, name: str) -> object:

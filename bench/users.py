@@ -218,6 +218,9 @@ def gecode(family, data, seconds):
     return [f"{spent:.1f}", "OPTIMUM " + lines[0] if is_done else "stopped"]
 
 
+HEAD = "family,instance,weight,bytes,layer s,bee s,verdict,gecode s,gecode's verdict,commit".split(",")
+
+
 def kept():
     """The rows that are known, by family and instance."""
     path = TOP / "bench/results/users.tsv"
@@ -231,7 +234,7 @@ def main():
     names, known = sys.argv[2:], kept()
     words = ["git", "-C", str(TOP), "rev-parse", "--short", "HEAD"]
     commit = subprocess.run(words, capture_output=True, text=True).stdout.strip()
-    print(*"family instance weight bytes layer bee verdict gecode gecode's commit".split(), sep="\t")
+    print("\t".join(HEAD), flush=True)
     for family, name, data in instances():
         name = name or family
         if not names or family in names or name in names:

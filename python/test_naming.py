@@ -64,10 +64,23 @@ class Blame(unittest.TestCase):
         model.add(all_different(x))
         model.soft(x[0] == x[1], 5)
         model.soft(x[0] == 3, 2)
-        model.soft(x[1] == 3)
+        model.soft(x[1] == 3, name="the second is 3")
         model.minimize(model.penalty)
         answer = model.solve(program=PROGRAM)
         self.assertEqual((answer.optimum, answer[x[0]]), ((6,), 3))
+        unmet = [(price, it.name) for price, it in answer.unmet()]
+        self.assertEqual(unmet, [(5, None), (1, "the second is 3")])
+
+    def test_cures_have_prices(self):
+        """Without the first name x can be 3, 3, 2, and without the second one 2, 1, 3."""
+        model = self.refused_model()
+        x = [*model.variables.values()]
+        core = model.core(program=PROGRAM)
+        self.assertEqual(model.prices(core, program=PROGRAM), dict.fromkeys(model.cures(core, program=PROGRAM), 0))
+        model.soft(x[0] == x[1], 4)
+        model.soft(x[2] == 3, 2)
+        prices = model.prices(core, program=PROGRAM)
+        self.assertEqual(prices, {"first behind second": 2, "second behind third": 4})
 
     def test_faults_tell_names(self):
         model, other = Model(), Model()

@@ -4,8 +4,9 @@
 
 Each family is written from plain words with the layer's constraints, no bound by hand, and as a MiniZinc model with
 the same words. For each instance a line: its weight, the bytes of its text, CPU seconds of the layer and of `bee
-solve`, what it answers, CPU seconds of MiniZinc and gecode together, what they answer. A run that takes more than
-SECONDS of CPU time (60) is stopped. BEE names the program; INSTANCES a folder of the instances, ../shared/instances.
+solve`, what it answers, CPU seconds of MiniZinc and gecode together, what they answer, and the commit that was
+measured. A run that takes more than SECONDS of CPU time (60) is stopped. Of instances that are not named, those of
+`results/users.tsv` are kept. BEE names the program; INSTANCES a folder of the instances, ../shared/instances.
 """
 import json
 import os
@@ -217,14 +218,30 @@ def gecode(family, data, seconds):
     return [f"{spent:.1f}", "OPTIMUM " + lines[0] if is_done else "stopped"]
 
 
+HEAD = "family,instance,weight,bytes,layer s,bee s,verdict,gecode s,gecode's verdict,commit".split(",")
+
+
+def kept():
+    """The rows that are known, by family and instance."""
+    path = TOP / "bench/results/users.tsv"
+    lines = path.read_text().splitlines() if path.exists() else []
+    rows = [it.split("\t") for it in lines if not it.startswith("#")]
+    return {(row[0], row[1]): row for row in rows[1:]}
+
+
 def main():
     seconds = int(sys.argv[1]) if len(sys.argv) > 1 else 60
-    print(*"family instance weight bytes layer bee verdict gecode verdict".split(), sep="\t")
+    names, known = sys.argv[2:], kept()
+    words = ["git", "-C", str(TOP), "rev-parse", "--short", "HEAD"]
+    commit = subprocess.run(words, capture_output=True, text=True).stdout.strip()
+    print("\t".join(HEAD), flush=True)
     for family, name, data in instances():
-        if len(sys.argv) > 2 and family not in sys.argv[2:] and name not in sys.argv[2:]:
-            continue
-        shown = ours(family, data, seconds) + gecode(family, data, seconds)
-        print(family, name, *shown, sep="\t", flush=True)
+        name = name or family
+        if not names or family in names or name in names:
+            shown = ours(family, data, seconds) + gecode(family, data, seconds)
+            known[family, name] = [family, name, *shown, commit]
+        if (family, name) in known:
+            print(*known[family, name], sep="\t", flush=True)
 
 
 if __name__ == "__main__":

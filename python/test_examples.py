@@ -21,6 +21,9 @@ FIRST_LINES = {
     "magic": "SATISFIABLE",
     "shop": "OPTIMUM 55",
     "curriculum": "OPTIMUM 8",
+    "steel": "OPTIMUM 1",
+    "warehouses": "OPTIMUM 383",
+    "picture": "SATISFIABLE",
 }
 
 

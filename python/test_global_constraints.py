@@ -345,7 +345,20 @@ def forbidden_rows(rng):
     )
 
 
+def alike_rows(rng):
+    """Many rows, whose beginnings have few ends."""
+    size = rng.randint(3, 4)
+    domains = integers(rng, size, 4, -1)
+    factors = [rng.randint(-2, 2) for _ in domains]
+    low, high = sorted(rng.randint(-4, 8) for _ in range(2))
+    every = itertools.product(range(-1, 4), repeat=size)
+    rows = [it for it in every if low <= sum(f * x for f, x in zip(factors, it)) <= high and it[0] <= it[-1] + 1]
+    rng.shuffle(rows)
+    return Case(domains, lambda v: [table(v.values(), rows)], lambda values: (*values.values(),) in rows)
+
+
 GENERATORS = [
+    alike_rows,
     bins,
     boxes,
     knapsacks,

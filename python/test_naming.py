@@ -2,7 +2,18 @@
 import unittest
 from unittest import mock
 
-from beemodel import Model, ModelError, all_different, element, interval, maximum, no_overlap, total, translation
+from beemodel import (
+    Model,
+    ModelError,
+    all_different,
+    element,
+    interval,
+    maximum,
+    no_overlap,
+    table,
+    total,
+    translation,
+)
 from trying import PROGRAM, need_program
 
 
@@ -53,17 +64,38 @@ class Blame(unittest.TestCase):
         model.add(all_different(x))
         model.soft(x[0] == x[1], 5)
         model.soft(x[0] == 3, 2)
-        model.soft(x[1] == 3)
+        model.soft(x[1] == 3, name="the second is 3")
         model.minimize(model.penalty)
         answer = model.solve(program=PROGRAM)
         self.assertEqual((answer.optimum, answer[x[0]]), ((6,), 3))
+        unmet = [(price, it.name) for price, it in answer.unmet()]
+        self.assertEqual(unmet, [(5, None), (1, "the second is 3")])
+
+    def test_cures_have_prices(self):
+        """Without the first name x can be 3, 3, 2, and without the second one 2, 1, 3."""
+        model = self.refused_model()
+        x = [*model.variables.values()]
+        core = model.core(program=PROGRAM)
+        self.assertEqual(model.prices(core, program=PROGRAM), dict.fromkeys(model.cures(core, program=PROGRAM), 0))
+        model.soft(x[0] == x[1], 4)
+        model.soft(x[2] == 3, 2)
+        prices = model.prices(core, program=PROGRAM)
+        self.assertEqual(prices, {"first behind second": 2, "second behind third": 4})
 
     def test_faults_tell_names(self):
         model, other = Model(), Model()
         x, strange = model.ints("x", 2, 1, 3), other.int("strange", 1, 3)
         for pattern, call in [
             ("maximum and minimum in place of max and min", lambda: max(x[0], x[1])),
-            (r"<x\[1\] in 1..3> is no whole number", lambda: model.int("y", 1, x[1])),
+            (r"y: x\[1\] is an expression, and a number is wanted", lambda: model.int("y", 1, x[1])),
+            (r"a cell of a table: x\[0\] \+ 1 is an expression", lambda: table(x, [(1, x[0] + 1)])),
+            (r"x\[0\]: a whole number is wanted here", lambda: [3, 1, 2][x[0]]),
+            (r"x\[0\]: this is one expression, and a list is wanted", lambda: total(x[0])),
+            (r"x\[1\]: this is one expression, and a list is wanted", lambda: all_different(x, x[1])),
+            (r"x\[0\]: this is no Boolean", lambda: x[0] & (x[1] == 1)),
+            (r"x\[0\]: this is no Boolean", lambda: x[0].implies(x[1] == 1)),
+            (r"x\[1\]: numbers are whole, and // divides them", lambda: x[1] / 2),
+            (r"x\[1\]: a power is written as a product", lambda: x[1] ** 2),
             ("strange is a variable of another model, declared at test_naming", lambda: strange.value({"x_0": 1})),
             ("no_overlap: .* is no interval", lambda: no_overlap([x[0]])),
         ]:

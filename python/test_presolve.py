@@ -17,7 +17,7 @@ from beemodel import (
     weighted_sum,
 )
 from beemodel import assignment, bounds, choices, disjunctive, functions, packing, presolve
-from beemodel import propagators, resources, sequences
+from beemodel import propagators, resources, sequences, tables
 from beemodel.guesses import Guessing
 from trying import Case, assignments, compare, declare, need_program
 
@@ -261,12 +261,22 @@ WRITTEN = {
             ),
         ),
     ),
+    "rows without their last step": (
+        test_global_constraints.alike_rows,
+        lambda: mock.patch.object(tables, "layers_of", lambda rows: [it[:-1] or it for it in LAYERS(rows)]),
+    ),
+    "rows whose steps lead to one state": (
+        test_global_constraints.alike_rows,
+        lambda: mock.patch.object(
+            tables, "layers_of", lambda rows: [[(0, cell, 0) for _, cell, _ in it] for it in LAYERS(rows)]
+        ),
+    ),
     "a price that every truth has": (
         test_global_constraints.prices,
         lambda: stronger(choices, "domain_of", lambda it, *them: it[:1] if len(it) > 1 else it),
     ),
 }
-CHANNEL = choices.channel_prices
+CHANNEL, LAYERS = choices.channel_prices, tables.layers_of
 
 
 class Written(unittest.TestCase):

@@ -145,6 +145,12 @@ class Answer:
             raise ProgramError(f"the answer is {self.verdict}, and has no values")
         return self.values
 
+    def unmet(self) -> list[tuple[int, Constraint]]:
+        """The soft constraints that don't hold under the values, each with its weight."""
+        values = self.known_values()
+        wishes = () if self.model is None else self.model.wishes
+        return [(price, it) for price, it in wishes if not it.truth.holds(values)]
+
     def shown_values(self) -> list[tuple[str, str]]:
         """The names as they are shown, with the values."""
         variables = {} if self.model is None else self.model.variables

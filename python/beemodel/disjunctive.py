@@ -6,7 +6,7 @@ from itertools import combinations
 from typing import TYPE_CHECKING, Optional
 
 from .bounds import Bounds, Conflict, Propagator
-from .expressions import AllOf, AnyOf, Comparison, Truth, whole
+from .expressions import AllOf, AnyOf, Comparison, Truth, flatten, whole
 from .intervals import Interval, Span, Watched
 from .linear import least_of, literal_of_comparison, stated, tie
 from .lines import refused
@@ -14,6 +14,13 @@ from .lines import refused
 if TYPE_CHECKING:
     from .presolve import Presolve
     from .translation import Translation
+
+# Of a task when it can begin, how long it takes, when it begins at the latest or has ended, and its
+# place.
+Part = tuple[int, int, int, int]
+
+# Before all times.
+LONG_AGO = -(1 << 62)
 
 # Of more tasks only pairs and windows are looked at.
 MANY = 40
@@ -59,12 +66,19 @@ class NoOverlap(Truth):
         return translation.literal(AllOf(tuple(self.apart(*it) for it in self.pairs())))
 
     def post(self, translation: Translation) -> None:
+        self.post_ends(translation)
         for one, other in self.pairs():
             first, second = self.tasks[one], self.tasks[other]
             key = ("apart", first.key(), second.key(), self.gap(one, other), self.gap(other, one))
             if key not in translation.literals:
                 translation.literals[key] = "true"
                 self.post_pair(translation, one, other)
+
+    def post_ends(self, translation: Translation) -> None:
+        """Makes the integer of each task's end, which all pairs with the task share."""
+        for it in self.tasks if self.gaps is None and len(self.tasks) > 2 else ():
+            if [*flatten(it.end)[0].values()] == [1]:
+                translation.integer(it.end)
 
     def post_pair(self, translation: Translation, one: int, other: int) -> None:
         """Writes that two tasks don't overlap, by one Boolean where just one order is possible at a
@@ -120,48 +134,45 @@ class Disjunctive(Propagator):
 
 def earliest(spans: Sequence[Span], gaps: Gaps) -> list[int]:
     """When each of some tasks can begin, as they are done one at a time."""
+    rising = sorted((it.first, it.duration, it.latest, at) for at, it in enumerate(spans))
     first = [
-        max(it.first, after_predecessors(spans, gaps, at)) for at, it in enumerate(spans)
+        max(it.first, after_predecessors(rising, gaps, at, it.first + it.duration))
+        for at, it in enumerate(spans)
     ]
-    by_first = sorted(range(len(spans)), key=lambda it: -spans[it].first)
+    falling = [(begin, duration, begin_by + duration, at) for begin, duration, begin_by, at in rising[::-1]]
     for end in {it.last for it in spans}:
-        push_behind(spans, by_first, end, first)
+        push_behind(falling, end, first)
     return first
 
 
-def after_predecessors(spans: Sequence[Span], gaps: Gaps, at: int) -> int:
-    """When those have ended that can't be done behind a task."""
-    task = spans[at]
-    before = [
-        (other, gaps[other][at] if gaps else 0)
-        for other, it in enumerate(spans)
-        if other != at and task.first + task.duration + (gaps[at][other] if gaps else 0) > it.latest
-    ]
-    least = max((spans[it].first + spans[it].duration + gap for it, gap in before), default=task.first)
-    ordered = sorted((spans[it] for it, _ in before), key=lambda it: it.first)
-    end = ordered[0].first if ordered else task.first
-    for it in ordered:
-        end = max(end, it.first) + it.duration
-    return max(least, end)
+def after_predecessors(rising: Sequence[Part], gaps: Gaps, at: int, done: int) -> int:
+    """When those have ended that can't be done behind a task that is done then at the earliest."""
+    end = least = LONG_AGO
+    for first, duration, latest, other in rising:
+        if other == at:
+            continue
+        if done + (gaps[at][other] if gaps else 0) > latest:
+            end = (first if first > end else end) + duration
+            least = max(least, first + duration + gaps[other][at]) if gaps else least
+    return max(end, least)
 
 
-def push_behind(spans: Sequence[Span], by_first: Sequence[int], end: int, first: list[int]) -> None:
+def push_behind(falling: Sequence[Part], end: int, first: list[int]) -> None:
     """Those that must have ended by a time fill windows up to it; a task that doesn't fit in before
     they have ended is done behind them."""
-    others = [at for at in by_first if spans[at].last > end] if len(spans) <= MANY else []
-    taken, done_by = 0, -(1 << 62)
-    for at in by_first:
-        if spans[at].last > end:
+    others = [it for it in falling if it[2] > end and it[1]] if len(falling) <= MANY else []
+    longest = max((it[1] for it in others), default=0)
+    taken, done_by = 0, LONG_AGO
+    for begin, duration, last, _ in falling:
+        if last > end:
             continue
-        begin = spans[at].first
-        taken += spans[at].duration
+        taken += duration
         done_by = max(done_by, begin + taken)
         if done_by > end:
             raise Conflict
-        for other in others:
-            task = spans[other]
-            if task.duration and min(begin, task.first) + taken + task.duration > end:
-                first[other] = max(first[other], done_by)
+        for start, length, _, other in others if begin + taken + longest > end else ():
+            if min(begin, start) + taken + length > end and first[other] < done_by:
+                first[other] = done_by
 
 
 def no_overlap(tasks: Iterable[Interval], setup: Gaps = None) -> Truth:

@@ -96,6 +96,37 @@ class Number:
             "and minimum in place of max and min"
         )
 
+    def __index__(self) -> int:
+        raise refused(
+            f"{self}: a whole number is wanted here, and an expression has no value yet; what stands in a "
+            "list at its place is element(list, place)"
+        )
+
+    def __getitem__(self, place: object) -> Number:
+        raise refused(f"{self}: this is one expression, and a list is wanted here")
+
+    def __truediv__(self, other: object) -> Number:
+        raise refused(f"{self}: numbers are whole, and // divides them")
+
+    def __pow__(self, other: object) -> Number:
+        raise refused(f"{self}: a power is written as a product")
+
+    def __and__(self, other: TruthLike) -> Truth:
+        return truth_of(self) & other
+
+    def __or__(self, other: TruthLike) -> Truth:
+        return truth_of(self) | other
+
+    def __xor__(self, other: TruthLike) -> Truth:
+        return truth_of(self) ^ other
+
+    def __invert__(self) -> Truth:
+        return ~truth_of(self)
+
+    def implies(self, other: TruthLike) -> Truth:
+        """If this, a truth, then that."""
+        return truth_of(self).implies(other)
+
     def __str__(self) -> str:
         return "an expression"
 
@@ -122,9 +153,12 @@ def whole(value: object, near: object) -> int:
     """The value, which has to be a whole number."""
     if isinstance(value, int):
         return int(value)
+    if isinstance(value, Number):
+        raise refused(f"{near}: {value} is an expression, and a number is wanted here")
     if hasattr(value, "__index__"):
         return int(value.__index__())
-    raise refused(f"{near}: {value!r} is no whole number; count in the smallest unit")
+    hint = "; count in the smallest unit" if hasattr(value, "__float__") else ""
+    raise refused(f"{near}: {value!r} is no whole number{hint}")
 
 
 def number_of(value: object) -> Number:

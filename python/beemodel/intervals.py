@@ -69,6 +69,8 @@ class Watched:
         self.duration = presolve.sides(task.duration)[0]
         self.present: Optional[Literal] = None if task.present is None else presolve.literal(task.present)
         self.about = presolve.watched(self.start[0], self.duration)
+        self.shift = self.start[0].constant
+        self.atom = self.start[0].variable() if not self.duration.terms else None
         self.about += [self.present[0]] if self.present else []
 
     def is_done(self, bounds: Bounds) -> bool:
@@ -77,15 +79,25 @@ class Watched:
 
     def span(self, bounds: Bounds) -> Span:
         """The times between which the task is done."""
+        if self.atom is not None:
+            length = max(0, self.duration.constant)
+            end = bounds.high[self.atom] + self.shift + self.duration.constant
+            return Span(bounds.low[self.atom] + self.shift, end, length)
         first, last = self.start[0].least(bounds), -self.end[1].least(bounds)
         return Span(first, last, max(0, self.duration.least(bounds)))
 
     def begin_from(self, bounds: Bounds, time: int) -> None:
         """The task begins at a time or later."""
+        if self.atom is not None:
+            bounds.at_least(self.atom, time - self.shift)
+            return
         above = self.start[1]
         AtMostZero(above.terms, above.constant + time).narrow(bounds)
 
     def end_by(self, bounds: Bounds, time: int) -> None:
         """The task has ended at a time."""
+        if self.atom is not None:
+            bounds.at_most(self.atom, time - self.duration.constant - self.shift)
+            return
         below = self.end[0]
         AtMostZero(below.terms, below.constant - time).narrow(bounds)

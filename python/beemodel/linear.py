@@ -214,7 +214,7 @@ def literal_of_sides(
 
 def compare(translation: Translation, first: Term, second: Term, left: Stated, made: str) -> None:
     """Writes that a Boolean is the truth of a comparison of two multiplied integers and a bound."""
-    if first.factor == 1 and len(first.domain) <= len(second.domain):
+    if first.factor == 1 and is_first_shifted(translation, first, second, left.bound):
         x = shifted(translation, integer_of(translation, first), 1, -left.bound)
         y = shifted(translation, integer_of(translation, second), second.factor, 0)
     else:
@@ -222,6 +222,20 @@ def compare(translation: Translation, first: Term, second: Term, left: Stated, m
         y = shifted(translation, integer_of(translation, second), second.factor, left.bound)
     weigh = weights.order if left.relation == "leq" else weights.equal
     translation.say(weigh(x.steps, y.steps), f"int_{left.relation}_reif", x.term, y.term, made)
+
+
+def is_first_shifted(translation: Translation, first: Term, second: Term, bound: int) -> bool:
+    """Whether a bound is added to the first side of a comparison: where that is made already, or
+    the other one isn't and has more values."""
+    if shift_key(first, 1, -bound) in translation.integers:
+        return True
+    is_made = shift_key(second, second.factor, bound) in translation.integers
+    return not is_made and len(first.domain) <= len(second.domain)
+
+
+def shift_key(term: Term, factor: int, constant: int) -> object:
+    """By what a term that is multiplied and shifted is found again."""
+    return "shifted", term.name, factor, constant
 
 
 def integer_of(translation: Translation, term: Term) -> Integer:

@@ -99,8 +99,11 @@ class Model:
     def __init__(self) -> None:
         self.variables: dict[str, Union[IntegerVariable, BooleanVariable]] = {}
         self.constraints: list[Constraint] = []
-        self.penalties: list[tuple[int, Truth]] = []
+        self.wishes: list[tuple[int, Constraint]] = []
         self.goal: Optional[Goal] = None
+
+    def __repr__(self) -> str:
+        return f"<Model of {len(self.variables)} variables and {len(self.constraints)} constraints>"
 
     if not TYPE_CHECKING:
 
@@ -192,15 +195,17 @@ class Model:
             each = it if isinstance(it, Iterable) else [it]
             self.constraints.extend(Constraint(truth_of(truth), line, name) for truth in each)
 
-    def soft(self, truth: TruthLike, weight: Whole = 1) -> None:
+    def soft(self, truth: TruthLike, weight: Whole = 1, name: Optional[str] = None) -> None:
         """Takes in what should hold: where it doesn't, its weight is added to the penalty."""
-        self.penalties.append((whole(weight, "the weight of a soft constraint"), truth_of(truth)))
+        price = whole(weight, "the weight of a soft constraint")
+        self.wishes.append((price, Constraint(truth_of(truth), line_of_script(), name)))
 
     @property
     def penalty(self) -> Number:
         """What the soft constraints that don't hold weigh together. It is made least by
         `minimize(model.penalty)`, or stands in another goal or a constraint."""
-        return weighted_sum([it for it, _ in self.penalties], [~it for _, it in self.penalties])
+        prices = [price for price, _ in self.wishes]
+        return weighted_sum(prices, [~it.truth for _, it in self.wishes])
 
     def minimize(self, objective: NumberLike, then: Optional[NumberLike] = None) -> None:
         """Seeks the least value, and among the solutions that have it the least value of a second
@@ -523,8 +528,22 @@ class Model:
     ) -> list[str]:
         """The names of a core's constraints each of which, left out alone, leaves a model that has
         a solution."""
-        names = dict.fromkeys(it.name for it in core.constraints or () if it.name is not None)
-        return [it for it in names if self.without(it).solve(budget, program)]
+        return [it for it in names_of(core) if self.without(it).solve(budget, program)]
+
+    def prices(
+        self, core: Core, budget: Optional[Whole] = None, program: Optional[str] = None
+    ) -> dict[str, Whole]:
+        """The names that `cures` tells, each with the penalty of the soft constraints where it is
+        left out: the least one, or, where the budget was spent, the least that was found."""
+        found = {}
+        for name in names_of(core):
+            left = self.without(name)
+            left.wishes = self.wishes
+            left.minimize(left.penalty)
+            answer = left.solve(budget, program)
+            if answer.objective is not None:
+                found[name] = answer.objective
+        return found
 
     def without(self, name: str) -> Model:
         """This model without the constraints of a name, and without its goal."""
@@ -545,6 +564,11 @@ class Model:
             limit = weights.LIMIT
             raise ModelError(f"the model weighs {weight}, above {limit}; heaviest: {shares}")
         return written.text()
+
+
+def names_of(core: Core) -> list[str]:
+    """The names of a core's constraints, each once."""
+    return [*dict.fromkeys(it.name for it in core.constraints or () if it.name is not None)]
 
 
 def narrowed_domain(variable: IntegerVariable, comparisons: Sequence[Comparison]) -> Domain:

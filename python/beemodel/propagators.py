@@ -132,6 +132,11 @@ class AtMostZero:
     def __init__(self, terms: Sequence[Term | Prices | Choice], constant: int):
         self.terms, self.constant = terms, constant
 
+    def variable(self) -> Optional[Number]:
+        """The number to which the constant is added, where the sum is no other."""
+        only = self.terms[0] if len(self.terms) == 1 else None
+        return only.atom if isinstance(only, Term) and only.factor == 1 else None
+
     def least(self, bounds: Bounds) -> int:
         """The least that the sum can be."""
         return self.constant + sum(it.least(bounds) for it in self.terms)

@@ -170,10 +170,11 @@ class Joining(Folder):
             tree.split[name] = choice.literal
         compiled.write_for_workers(self.at, 5)
         (self.at / "solver").write_text(f"{kind} {solver}\n")
-        for name in list(tree.leaves()):
+        for number, name in enumerate(tree.leaves(), 1):
+            tree.take(["given", name, str(number)])
             literals = map(str, tree.cube(name).literals)
             with open(self.at / f"part.{name}", "w") as part:
-                words = ["sh", str(WORKER), str(self.at), name, str(os.getpid()), *literals]
+                words = ["sh", str(WORKER), str(self.at), name, str(number), str(os.getpid()), *literals]
                 subprocess.run(words, stdout=part, check=True)
             self.assertEqual(outcome_of(self.at / f"part.{name}").what, "refuted")
             (self.at / f"part.{name}").rename(self.at / name)
@@ -196,7 +197,9 @@ class Joining(Folder):
             kept = (self.at / name).read_text()
             lines = kept.splitlines(True)
             ends = [k for k, it in enumerate(lines) if not it.startswith("c")]
-            for changed in (lines[: ends[-1]], [it for it in lines if it.startswith("c")], ["c bound\n", "9 x\n"]):
+            others = [f"9{it}" if it[0] != "c" else it for it in lines]
+            none = [it for it in lines if it.startswith("c")]
+            for changed in (lines[: ends[-1]], none, others, ["c bound\n", "9 x\n"]):
                 (self.at / name).write_text("".join(changed))
                 with self.subTest(name=name, lines=len(changed)):
                     try:
@@ -310,6 +313,27 @@ class Commands(Folder):
                 shutil.rmtree(self.at / "work")
                 self.assertRegex(told, r"cube c[01]+ \(")
                 self.check("UNSATISFIABLE")
+
+    def test_what_is_killed_beside_the_worker_is_not_waited_for(self):
+        """What runs the worker, so that nothing tells how its cube ended."""
+        above = "ps -o ppid= -p $PPID"
+        solver = self.solver(f'if mkdir "$ONCE" 2>/dev/null; then kill -9 $({above}); sleep 3; fi')
+        code, told = self.run_command(pigeons(7), "--look", "0", "--solver", solver)
+        self.assertEqual(code, 0, told)
+        self.assertRegex(told, r"cube c[01]+ \(.*failed on -: its worker ended with code 1")
+        self.check("UNSATISFIABLE")
+
+    def test_a_run_whose_folder_is_taken_away_ends(self):
+        words = self.words(pigeons(7), "--look", "0", "--solver", self.solver("sleep 60"))
+        process = subprocess.Popen(words, stderr=subprocess.PIPE, stdout=subprocess.DEVNULL, env=self.environment())
+        for _ in range(600):
+            if (self.at / "work/slot.1").exists():
+                break
+            time.sleep(0.1)
+        shutil.rmtree(self.at / "work")
+        _, told = process.communicate(timeout=60)
+        self.assertEqual(process.returncode, 4)
+        self.assertIn(b"is gone", told)
 
     def test_a_cube_that_always_fails_ends_the_run_and_keeps_the_journal(self):
         words = ["--look", "0", "--retries", "1", "--solver", self.solver("exit 1")]

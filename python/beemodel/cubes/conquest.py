@@ -180,6 +180,8 @@ class Conquest:
         """Hands cubes to the engine, which begins them in this order as workers are free."""
         if not names:
             return
+        for it in names:
+            self.journal.add("given", it, self.tree.last_number + 1)
         self.engine.queue([self.tree.cube(it) for it in names], avoided)
         self.waiting += names
         self.start_waiting()
@@ -225,6 +227,7 @@ class Conquest:
             self.take_failure(end)
         if outcome.what != "failed":
             self.unreached.pop(end.machine, None)
+        path.unlink(missing_ok=True)
         self.start_waiting()
 
     def take_values(self, end: Ended, path: Path) -> None:

@@ -72,11 +72,11 @@ INSTANCES = ["ft10", "la01", "la02", "la03", "la04", "la05", "exams80", "tour20"
 # With beemodel.
 
 
-def shop_model(jobs):
-    """A job shop."""
+def shop_model(jobs, most=None):
+    """A job shop, whose last end is at most what a plan made task by task has, or `most`."""
     from beemodel import Model, interval, maximum, no_overlap
 
-    model, end, on, last = Model(), one_by_one(jobs), {}, []
+    model, end, on, last = Model(), most or one_by_one(jobs), {}, []
     for number, job in enumerate(jobs):
         before = 0
         for place, (machine, hours) in enumerate(job):

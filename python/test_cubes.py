@@ -304,7 +304,8 @@ class Commands(Folder):
         lying = 'echo "s UNSATISFIABLE"; echo "999999 0 1 0"; exit'
         cut = '"$BEE" "$@" | head -n 3; exit'
         values = 'echo "s SATISFIABLE"; echo "v 1 0"; exit'
-        for script in ("exit 1", "kill -9 $$", lying, cut, values):
+        full = 'ulimit -f 1; "$BEE" "$@"; exit'
+        for script in ("exit 1", "kill -9 $$", lying, cut, values, full):
             with self.subTest(script=script):
                 solver = self.solver(f'if mkdir "$ONCE" 2>/dev/null; then {script}; fi')
                 code, told = self.run_command(pigeons(7), "--look", "0", "--solver", solver)
@@ -326,6 +327,7 @@ class Commands(Folder):
     def test_a_run_whose_folder_is_taken_away_ends(self):
         words = self.words(pigeons(7), "--look", "0", "--solver", self.solver("sleep 60"))
         process = subprocess.Popen(words, stderr=subprocess.PIPE, stdout=subprocess.DEVNULL, env=self.environment())
+        self.addCleanup(process.kill)
         for _ in range(600):
             if (self.at / "work/slot.1").exists():
                 break
@@ -348,25 +350,26 @@ class Commands(Folder):
         self.check("UNSATISFIABLE")
 
     def test_a_run_that_is_ended_goes_on(self):
-        slow = self.solver(f'echo "$CNF" >>{self.at}/calls; [ "$(wc -l <{self.at}/calls)" -gt 3 ] && exec sleep 60')
+        """Three workers refute their cubes, and the others sleep."""
         for number in (signal.SIGINT, signal.SIGKILL):
             with self.subTest(signal=number):
+                turns = " || ".join(f"mkdir {self.at}/{number}.{it} 2>/dev/null" for it in range(3))
+                slow = self.solver(f"{turns} || exec sleep 60")
                 words = self.words(pigeons(7), "--look", "0", "--cubes", "8", "--solver", slow)
                 process = subprocess.Popen(words, stderr=subprocess.PIPE, env=self.environment())
+                self.addCleanup(process.kill)
                 self.wait_for_refuted(3)
                 process.send_signal(number)
                 process.wait()
                 told = process.stderr.read()
                 process.stderr.close()
                 self.assertTrue(number == signal.SIGKILL or b"--resume goes on" in told)
-                (self.at / "calls").unlink()
                 quick = self.solver(f'echo "$CNF" >>{self.at}/calls')
                 code, told = self.run_command(pigeons(7), "--look", "0", "--solver", quick, "--resume")
                 self.assertEqual((code, told), (0, ""))
                 self.check("UNSATISFIABLE")
                 self.assertEqual(len((self.at / "calls").read_text().splitlines()), 5)
                 (self.at / "calls").unlink()
-                self.solver(f'echo "$CNF" >>{self.at}/calls; [ "$(wc -l <{self.at}/calls)" -gt 3 ] && exec sleep 60')
 
     def wait_for_refuted(self, count: int) -> None:
         journal = self.at / "work/journal"
@@ -375,6 +378,14 @@ class Commands(Folder):
                 return
             time.sleep(0.1)
         self.fail("the workers did not begin")
+
+    def test_a_cube_that_is_given_up_is_split_again(self):
+        spent = self.solver('if mkdir "$ONCE" 2>/dev/null; then echo "s UNKNOWN"; exit 8; fi')
+        code, told = self.run_command(pigeons(7), "--look", "0", "--cubes", "1", "--solver", spent, "--progress")
+        self.assertEqual(code, 0, told)
+        self.assertRegex(told, r"[1-9] split")
+        self.assertNotIn("failed", told)
+        self.check("UNSATISFIABLE")
 
     def test_a_cube_past_its_share_is_split_again(self):
         count = 'n=$(grep -c "^[0-9]* 0$" "$CNF"); m=$(grep -c "^-[0-9]* 0$" "$CNF")'
@@ -401,10 +412,12 @@ class Commands(Folder):
     def test_bad_input_is_told_before_anything_runs(self):
         (self.at / "hosts").write_text("1/:\n2/false\n")
         (self.at / "empty").write_text("# none\n")
+        (self.at / "idle").write_text("1/:\n0/other\n")
         cases = [
             ("new_bool(a)\nsolve minimize a\n", [], 3, "model: statement 2: kind"),
             (pigeons(5), ["--hosts", str(self.at / "hosts")], 4, "can't be reached"),
             (pigeons(5), ["--hosts", str(self.at / "empty")], 4, "names no host"),
+            (pigeons(5), ["--hosts", str(self.at / "idle")], 4, "other has no worker"),
             (pigeons(5), ["--hosts", str(self.at / "nothing")], 4, "No such file"),
             (pigeons(5), ["--solver", "no-such-solver"], 4, "there is no no-such-solver on this machine"),
             (pigeons(5), ["--jobs", "0"], 2, "less than 1"),

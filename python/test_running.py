@@ -324,6 +324,20 @@ class Cubes(unittest.TestCase):
             self.assertEqual((answer.verdict, answer.objective, answer.bound), ("OPTIMUM", 2, 2))
             self.assertEqual((answer[x], answer[y]), (1, 1))
 
+    def test_seconds(self):
+        """The best plan that a worker found is kept, and no process is left."""
+        if shutil.which("parallel") is None or shutil.which("flock") is None:
+            self.skipTest("there is no GNU parallel")
+        model, ends = ruler(11)
+        found = []
+        answer = model.solve(jobs=2, seconds=8, on_solution=found.append, program=PROGRAM)
+        self.assertEqual((answer.verdict, answer.stopped), ("UNKNOWN", "seconds"))
+        if found:
+            self.assertEqual((answer.objective, answer.values), (found[-1].objective, found[-1].values))
+            self.assertEqual(answer[ends[-1]], answer.objective)
+            self.assertTrue(is_solution(model, answer.values))
+        self.assertEqual(children(), 0)
+
 
 class Improved(unittest.TestCase):
     def test_a_seed_is_repeatable(self):

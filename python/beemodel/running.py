@@ -103,6 +103,16 @@ class Watch:
         if self.asked.on_found is not None:
             self.asked.on_found(self.best)
 
+    def take_values(self, values: Values) -> None:
+        """Takes the values of a solution, where it is better than what is known."""
+        numbers = tuple(int(values[it]) for it in self.goal.names)
+        if self.best is not None and not self.goal.is_better(numbers, self.best.objectives):
+            return
+        self.best = Found(numbers, values, 0, self.seconds())
+        self.steps.append(Step(numbers, 0, self.best.seconds))
+        if self.asked.on_found is not None:
+            self.asked.on_found(self.best)
+
     def show(self, line: str) -> None:
         """Shows a line of the program and the seconds, where that is wanted."""
         if self.asked.progress:
@@ -324,24 +334,47 @@ def stated_first(
     return best, stopped
 
 
-def cubes_text(
-    text: str, jobs: int, hosts: Optional[Hosts], program: Optional[str], folder: Folder, progress: bool
-) -> Answer:
+def cubes_text(text: str, jobs: int, hosts: Optional[Hosts], asked: Limits, folder: Folder) -> Answer:
     """Answers the text of a model by workers side by side, and checks the answer. With a folder, the
-    texts stay there."""
-    from .cubes import solve_in_cubes
+    texts stay there. At the limit, or by an interrupt, the best solution is checked that is known."""
+    from .cubes import OutOfTime, solve_in_cubes
 
+    watch, stopped, proof = Watch(text, asked), None, Proof()
     with tempfile.TemporaryDirectory(prefix="beemodel-") as room:
-        listed = None if hosts is None else Path(room, "hosts")
-        if isinstance(hosts, (str, Path)):
-            listed = Path(hosts)
-        elif listed is not None and hosts is not None:
-            listed.write_text("".join(f"{it}\n" for it in hosts))
-        at = folder or Path(room, "cubes")
-        answer = solve_in_cubes(text, jobs, listed, program=program, folder=at, progress=progress)
+        at = Path(folder or Path(room, "cubes"))
+        try:
+            answer = solve_in_cubes(
+                text,
+                jobs,
+                listed_hosts(hosts, Path(room)),
+                program=asked.program,
+                folder=at,
+                progress=asked.progress,
+                until=None if asked.seconds is None else watch.begun + asked.seconds,
+                on_values=watch.take_values,
+            )
+            proof = proof_of(at / "answer") if (at / "answer").exists() else proof
+        except OutOfTime:
+            stopped = "seconds"
+        except KeyboardInterrupt:
+            if watch.best is None:
+                raise
+            stopped = "interrupt"
+        if stopped is not None:
+            answer = known_answer(text, 0, watch.best, asked, Path(folder or room))
     answer.objectives = answer.optimum or answer.objectives
-    answer.bound = answer.optimum[0] if answer.optimum else bound_of(text, answer)
-    return answer
+    if answer.verdict == "SATISFIABLE" and answer.values is not None and asked.on_found is not None:
+        asked.on_found(Found((), answer.values, 0, watch.seconds()))
+    return with_run(answer, text, asked, watch, proof, stopped)
+
+
+def listed_hosts(hosts: Optional[Hosts], room: Path) -> Optional[Path]:
+    """The file of hosts, made in a folder where they are a list."""
+    if hosts is None or isinstance(hosts, (str, Path)):
+        return None if hosts is None else Path(hosts)
+    listed = room / "hosts"
+    listed.write_text("".join(f"{it}\n" for it in hosts))
+    return listed
 
 
 def run_checked(

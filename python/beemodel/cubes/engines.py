@@ -9,6 +9,7 @@ import signal
 import subprocess
 import threading
 import time
+from contextlib import suppress
 from pathlib import Path
 from typing import NamedTuple, Optional
 
@@ -66,7 +67,8 @@ class GnuParallel:
             bufsize=1,
             start_new_session=True,
         )
-        threading.Thread(target=self.listen, daemon=True).start()
+        self.listener = threading.Thread(target=self.listen, daemon=True)
+        self.listener.start()
 
     def listen(self) -> None:
         assert self.process.stdout is not None
@@ -129,6 +131,13 @@ class GnuParallel:
             self.process.wait(2)
         except subprocess.TimeoutExpired:
             self.process.kill()
+            self.process.wait()
+        # What a worker has left open on standard output may outlive them.
+        self.listener.join(2)
+        for stream in (self.process.stdin, self.process.stdout):
+            if stream is not None and not self.listener.is_alive():
+                with suppress(OSError):
+                    stream.close()
 
 
 def processes_below(process: int) -> list[int]:

@@ -104,9 +104,9 @@ renumbered() {
     }
     $2 == "d" { next }
     {
-      if ($1 - last > 9999999) exit 1
+      if ($1 - last > 9999999 || $NF != "0") exit 1
       line = number sprintf("%07d", $1 - last)
-      for (i = 2; $i != "0"; i++) if (!($i in in_cube)) line = line " " $i
+      for (i = 2; i < NF && $i != "0"; i++) if (!($i in in_cube)) line = line " " $i
       line = line behind
       for (i++; i < NF; i++) {
         if ($i <= clauses) line = line " " $i

@@ -10,7 +10,7 @@ Each answer is checked.
 JOBS ("1 2 4") and CUBES ("4 16 64 256") name others; WORKER is `bee` or `cadical`; BEE the program; no run begins behind
 WITHIN seconds, and none lasts longer than until then. On a machine that does other work, CPU seconds and the schedule
 say more than wall-clock seconds. Wants GNU parallel."""
-import heapq, os, re, resource, subprocess, sys, tempfile, time
+import heapq, os, re, resource, shutil, subprocess, sys, tempfile, time
 from pathlib import Path
 
 TOP = Path(__file__).resolve().parents[1]
@@ -21,7 +21,7 @@ BEE = os.environ.get("BEE") or str(TOP / "crates/bee/out/bee")
 JOBS = [int(it) for it in os.environ.get("JOBS", "1 2 4").split()]
 CUBES = [int(it) for it in os.environ.get("CUBES", "4 16 64 256").split()]
 WORKER = os.environ.get("WORKER", "bee")
-END = time.monotonic() + float(os.environ.get("WITHIN", "1e9"))
+END = time.monotonic() + float(os.environ.get("WITHIN", "1e6"))
 
 
 def pigeons(count):
@@ -92,6 +92,7 @@ def called(words, to, env):
 def run(name, model, workers, cubes, folder):
     """One run, and its line."""
     journal, kept, answer = folder / "journal", folder / "kept", folder / "answer"
+    shutil.rmtree(folder / "work", ignore_errors=True)
     for it in (journal, kept):
         it.unlink(missing_ok=True)
     journal.touch()

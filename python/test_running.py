@@ -307,6 +307,14 @@ class Resumed(unittest.TestCase):
         self.assertEqual((answer.verdict, answer.objective), ("OPTIMUM", -1))
         self.assertEqual(self.kept.read_text(), "x = 4\nrain = false\n")
 
+    def test_a_solution_is_kept_where_the_search_is_ended_before_it(self):
+        slow = self.program.read_text().replace("; model=", '; [ "$(wc -l <"$2")" -gt 2 ] && exec sleep 60; model=')
+        self.program.write_text(slow)
+        model, x, y = two()
+        answer = model.solve(seconds=1, start={x: 3, y: 3}, program=str(self.program))
+        self.assertEqual((answer.verdict, answer.stopped), ("UNKNOWN", "seconds"))
+        self.assertEqual((answer.objective, answer[x], answer[y]), (6, 3, 3))
+
     def test_the_last_call_begins_with_the_best_plan(self):
         answer = shop(4, 3, 2).improve(60, steps=2, seed=1, program=str(self.program))
         self.assertEqual(answer.verdict, "OPTIMUM")

@@ -273,10 +273,17 @@ def solve_text(
 def begun_answer(text: str, asked: Limits, at: Path, start: Mapping[str, Value]) -> Answer:
     """The answer of a search that begins from values: by `bee resume`, or, where the program has no
     such mode, behind a search in a copy of the text in which the values are stated."""
-    wishes = wished(text, start)
+    wishes, watch = wished(text, start), Watch(text, asked)
     if resumes(program_of(asked.program)):
-        return search_answer(text, asked, at, wishes_file(wishes, at))
-    watch = Watch(text, asked)
+        answer = search_answer(text, asked, at, wishes_file(wishes, at))
+        if answer.values is not None or answer.verdict != "UNKNOWN":
+            return answer
+        # It was ended before it came upon the values.
+        known, _ = stated_first(text, wishes, asked, at)
+        if known is None:
+            return answer
+        made = known_answer(text, answer.count_of_clauses or 0, known, asked, at)
+        return with_run(made, text, asked, watch, Proof(), answer.stopped)
     known, stopped = stated_first(text, wishes, asked, at)
     if known is not None and (stopped == "interrupt" or not known.objectives):
         answer = known_answer(text, known.count_of_clauses, known, asked, at)
@@ -305,8 +312,8 @@ def resumes(program: str) -> bool:
     """Whether the program has the mode `resume`."""
     with tempfile.TemporaryDirectory(prefix="beemodel-") as room:
         model, values = Path(room, "model.bee"), Path(room, "start.values")
-        model.write_text(f"{SATISFY}\n", encoding="ascii")
-        values.write_text("", encoding="ascii")
+        model.write_text(f"new_bool(x)\n{SATISFY}\n", encoding="ascii")
+        values.write_text(value_line("x", True), encoding="ascii")
         words = [program, "resume", str(model), str(values)]
         return watched(words, Path(room, "answer"), lambda line: False).code == 0
 

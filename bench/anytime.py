@@ -278,7 +278,8 @@ def main():
     begun = time.monotonic()
     with tempfile.TemporaryDirectory() as folder, ThreadPoolExecutor(given.jobs) as pool:
         runs = [(instance, way) for instance in given.instances for way in ways]
-        for (instance, way), cells in zip(runs, pool.map(lambda it: curve(words_of(it[1], it[0], folder), marks), runs)):
+        each = pool.map(lambda it: curve(words_of(it[1], it[0], folder), marks), runs)
+        for (instance, way), cells in zip(runs, each):
             print(instance, shops().get(instance, {}).get("optimum", ""), way, *cells, sep="\t", flush=True)
     print(f"{time.monotonic() - begun:.0f} s of wall-clock time", file=sys.stderr)
     return None

@@ -7,9 +7,9 @@ wall-clock seconds that refuting these cubes in their order would take so many w
 seconds of joining, `bee certify` and `bee check`; and bytes of the joined text. Without MODEL those of MODELS are made.
 Each answer is checked.
 
-JOBS ("1 2 4") and CUBES ("4 16 64 256") name others; WORKER is `bee` or `cadical`; BEE the program; no run begins behind
-WITHIN seconds, and none lasts longer than until then. On a machine that does other work, CPU seconds and the schedule
-say more than wall-clock seconds. Wants GNU parallel."""
+JOBS ("1 2 4") and CUBES ("4 16 64 256") name others; WORKER is `bee` or `cadical`; BEE the program; no run begins
+behind WITHIN seconds, and none lasts longer than until then. On a machine that does other work, CPU seconds and the
+schedule say more than wall-clock seconds. Wants GNU parallel."""
 import heapq, os, re, resource, shutil, subprocess, sys, tempfile, time
 from pathlib import Path
 

@@ -19,7 +19,7 @@ from beemodel.cubes import solve_in_cubes
 from beemodel.cubes.clauses import Compiled
 from beemodel.cubes.conquest import outcome_of
 from beemodel.cubes.hints import Hints
-from beemodel.cubes.joining import Hinted, NoHints, join
+from beemodel.cubes.joining import Hinted, NoHints, Restated, join
 from beemodel.cubes.lookahead import LookAhead
 from beemodel.cubes.program import Bee, first_of, goal_of, second_of
 from beemodel.cubes.tree import Journal, Tree
@@ -190,6 +190,13 @@ class Joining(Folder):
     def test_parts_with_hints_are_one_refutation(self):
         compiled, tree = self.parts("bee", PROGRAM)
         self.assertEqual(self.certified(compiled, tree), (0, ""))
+
+    def test_lines_under_a_weaker_bound_are_restated(self):
+        """The bound comes first, the worker's one by its id here, and what the bound makes true is gone."""
+        restated = Restated(-7, 100, 200)
+        lines = ["11 3 4 0 100 5 0\n", "12 -7 4 0 5 0\n", "13 4 0 12 11 0\n", "14 0 13 0\n"]
+        told = ["11 3 4 0 100 200 5 0\n", "", "13 4 0 100 11 0\n", "14 0 100 13 0\n"]
+        self.assertEqual([restated.line(it) for it in lines], told)
 
     def test_a_part_that_is_none_is_told_by_its_cube(self):
         compiled, tree = self.parts("bee", PROGRAM)

@@ -104,20 +104,20 @@ class Hinted:
     def part(self, cube: Cube) -> Iterator[str]:
         """The lines of a part, whose ids are those of its cube, and the last of which is the clause that leaves the
         cube out."""
-        last, kept = "", None
+        last, restated = "", None
         with open(self.parts / cube.name, errors="replace") as text:
             for line in text:
                 if line.startswith("c bound"):
                     bound = bound_of(line)
                     yield from self.bound_line(cube.name, bound)
-                    kept = self.cleaner(bound)
+                    restated = self.restated(bound)
                 if line.startswith("c"):
                     continue
                 number = line.partition(" ")[0]
                 if not number.isdecimal() or int(number) // PART != cube.number:
                     raise NoHints(cube.name)
                 last = line
-                line = line if kept is None else kept.line(cube.name, line)
+                line = line if restated is None else restated.line(line)
                 if line:
                     yield line
         clause = clause_of(cube.name, last)
@@ -125,12 +125,12 @@ class Hinted:
             raise NoHints(cube.name)
         self.ids[cube.name] = int(last.partition(" ")[0])
 
-    def cleaner(self, bound: Optional[int]) -> Optional[Cleaner]:
-        """What makes lines of a worker that had another bound, or none, into those that follow from this one."""
+    def restated(self, bound: Optional[int]) -> Optional[Restated]:
+        """What restates lines of a worker that had another bound, or none."""
         if self.bound is None or self.bound == bound:
             return None
         number = None if bound is None else self.bounds[bound]
-        return Cleaner(self.hints.clauses, self.bound, self.bounds, number)
+        return Restated(self.bound, self.count + 1, number)
 
     def bound_line(self, name: str, bound: Optional[int]) -> Iterator[str]:
         """The bound that a worker had, where another one is better by now: it follows from that one."""
@@ -156,48 +156,25 @@ def clause_of(name: str, line: str) -> list[str]:
     return words[1 : words.index("0", 1)]
 
 
-class Cleaner:
-    """Lines of a part whose worker had a weaker bound, or none, by hints with which they follow once the bound is true
-    from the start: a clause that this makes true, or tells nothing new, is no hint. `number` is the id of the worker's
-    bound, which its lines name by the id behind the clauses."""
+class Restated:
+    """Lines of a part whose worker had a weaker bound, or none, restated so that they follow once the bound, whose id
+    is `own`, is true from the start: it is the first hint of each. A clause that it makes true is left out, since it
+    tells nothing then. `number` is the id of the worker's bound, which its lines name `own`."""
 
-    def __init__(self, clauses: list[list[int]], bound: int, bounds: dict[int, int], number: Optional[int]):
-        self.clauses, self.bound, self.number = clauses, bound, number
-        self.added = {id_of_bound: [literal] for literal, id_of_bound in bounds.items()}
+    def __init__(self, bound: int, own: int, number: Optional[int]):
+        self.bound, self.own = str(bound), str(own)
+        self.number = self.own if number is None else str(number)
+        self.gone: set[str] = set()
 
-    def line(self, name: str, line: str) -> str:
-        """A line of the part of a cube; empty where the bound makes its clause true, which is then left out."""
-        clause = clause_of(name, line)
-        words = line.split()
-        hints = words[len(clause) + 2 : -1]
-        try:
-            numbers = [self.id_here(int(it)) for it in hints]
-            kept = self.clean(int(words[0]), [int(it) for it in clause], numbers)
-        except (ValueError, KeyError, IndexError) as fault:
-            raise NoHints(name) from fault
-        return f"{words[0]} {' '.join([*clause, '0', *map(str, kept)])} 0\n" if kept else ""
-
-    def id_here(self, hint: int) -> int:
-        """The id of a clause that a line of the part names."""
-        return self.number if self.number is not None and hint == len(self.clauses) else hint
-
-    def clean(self, number: int, clause: list[int], hints: list[int]) -> list[int]:
-        """The hints of the next clause, that of the bound first; none where the bound makes the clause true."""
-        self.added[number] = clause
+    def line(self, line: str) -> str:
+        """A line of the part; empty where it is left out."""
+        head, _, hints = line.partition(" 0 ")
+        number, *clause = head.split()
         if self.bound in clause:
-            return []
-        false = {*clause, -self.bound}
-        kept = [len(self.clauses)]
-        for it in hints:
-            lits = self.added[it] if it in self.added else self.clauses[it - 1]
-            still_open = [lit for lit in lits if lit not in false]
-            if len(still_open) > 1 or (still_open and -still_open[0] in false):
-                continue
-            kept.append(it)
-            if not still_open:
-                break
-            false.add(-still_open[0])
-        return kept
+            self.gone.add(number)
+            return ""
+        kept = [self.number if it == self.own else it for it in hints.split() if it not in self.gone]
+        return f"{head} 0 {self.own} {' '.join(kept)}\n"
 
 
 def join(tree: Tree, lines: Plain | Hinted, values: Optional[Path], to: TextIO) -> Joined:

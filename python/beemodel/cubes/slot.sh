@@ -1,8 +1,8 @@
 #!/bin/sh
 # slot.sh FOLDER LINE: runs one cube on a free slot. LINE is its name, its number, the machine that it must not run on,
-# or `-`, and its literals. FOLDER/slots has a line for each slot: the number of its machine, the folder there, and `:` for this
-# machine, or the words that reach another one. What the worker writes is FOLDER/out/NAME.out once this has told, on
-# standard output, the name, the machine, the slot and the exit code.
+# or `-`, and its literals. FOLDER/slots has a line for each slot: the number of its machine, the folder there, and `:`
+# for this machine, or the words that reach another one. What the worker writes is FOLDER/out/NAME.out once this has
+# told, on standard output, the name, the machine, the slot and the exit code.
 folder=$1
 set -- $2
 name=$1 id=$2 avoided=$3

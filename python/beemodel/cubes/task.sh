@@ -1,7 +1,7 @@
 #!/bin/sh
 # task.sh FOLDER LIST: an element of an array job. Line N of LIST, counted from 0, is the name of cube N, its number and
-# its literals. FOLDER is one that all nodes see. What the worker writes is FOLDER/out/NAME.out once FOLDER/ended/NAME is
-# there, with the name, the node, the restarts and the exit code.
+# its literals. FOLDER is one that all nodes see. What the worker writes is FOLDER/out/NAME.out once FOLDER/ended/NAME
+# is there, with the name, the node, the restarts and the exit code.
 folder=$1 list=$2
 # A job that is taken from this node has not ended.
 trap 'exit 1' HUP INT TERM

@@ -1,5 +1,6 @@
 #!/usr/bin/env python3
-"""Best values after some CPU seconds: anytime.py [--seconds 5,15,60] [--by solve,improve,gecode] [INSTANCE ..]
+"""Best values after some CPU seconds: anytime.py [--seconds 5,15,60] [--by solve,improve,gecode] [--jobs N]
+[INSTANCE ..]
 
 The instances are job shops of the literature (`shops.json`: ft10 and la01 to la05; each task has its job and machine,
 no two tasks of a machine overlap, the last end is least), exams80 (80 exams in as few slots as can be, those with
@@ -12,7 +13,8 @@ A line is printed for each: the optimum where it is known, and the best value kn
 with `*` where the optimum was shown.
 
 CPU seconds are those of all processes of a run, Python's and MiniZinc's own included, so that other work on the machine
-counts little. BEE names the program; without MiniZinc on the PATH gecode is left out.
+counts little; so several runs go side by side, one fewer than there are processors, or `--jobs`. With three the whole
+takes eight minutes at most on a quiet machine. BEE names the program; without MiniZinc on the PATH gecode is left out.
 """
 import argparse
 import json
@@ -26,6 +28,7 @@ import subprocess
 import sys
 import tempfile
 import time
+from concurrent.futures import ThreadPoolExecutor
 from itertools import combinations
 
 TOP = os.path.dirname(os.path.dirname(os.path.realpath(__file__)))
@@ -72,11 +75,11 @@ INSTANCES = ["ft10", "la01", "la02", "la03", "la04", "la05", "exams80", "tour20"
 # With beemodel.
 
 
-def shop_model(jobs):
-    """A job shop."""
+def shop_model(jobs, most=None):
+    """A job shop, whose last end is at most what a plan made task by task has, or `most`."""
     from beemodel import Model, interval, maximum, no_overlap
 
-    model, end, on, last = Model(), one_by_one(jobs), {}, []
+    model, end, on, last = Model(), most or one_by_one(jobs), {}, []
     for number, job in enumerate(jobs):
         before = 0
         for place, (machine, hours) in enumerate(job):
@@ -263,6 +266,7 @@ def main():
     parser = argparse.ArgumentParser(description=__doc__, formatter_class=argparse.RawDescriptionHelpFormatter)
     parser.add_argument("--seconds", default="5,15,60")
     parser.add_argument("--by", default="solve,improve,gecode")
+    parser.add_argument("--jobs", type=int, default=max(1, (os.cpu_count() or 2) - 1))
     parser.add_argument("--run", help=argparse.SUPPRESS)
     parser.add_argument("instances", nargs="*", default=INSTANCES)
     given = parser.parse_args()
@@ -270,16 +274,14 @@ def main():
         return run(given.run, given.instances[0])
     marks = [float(it) for it in given.seconds.split(",")]
     print("instance\toptimum\tby\t" + "\t".join(f"{it:g} s" for it in marks))
-    with tempfile.TemporaryDirectory() as folder:
-        for instance in given.instances:
-            optimum = shops().get(instance, {}).get("optimum", "")
-            for way in given.by.split(","):
-                if way == "gecode" and shutil.which("minizinc") is None:
-                    continue
-                begun = time.monotonic()
-                cells = curve(words_of(way, instance, folder), marks)
-                print(instance, optimum, way, *cells, sep="\t", flush=True)
-                print(f"{time.monotonic() - begun:.0f} s of wall-clock time", file=sys.stderr, flush=True)
+    ways = [it for it in given.by.split(",") if it != "gecode" or shutil.which("minizinc")]
+    begun = time.monotonic()
+    with tempfile.TemporaryDirectory() as folder, ThreadPoolExecutor(given.jobs) as pool:
+        runs = [(instance, way) for instance in given.instances for way in ways]
+        each = pool.map(lambda it: curve(words_of(it[1], it[0], folder), marks), runs)
+        for (instance, way), cells in zip(runs, each):
+            print(instance, shops().get(instance, {}).get("optimum", ""), way, *cells, sep="\t", flush=True)
+    print(f"{time.monotonic() - begun:.0f} s of wall-clock time", file=sys.stderr)
     return None
 
 

@@ -19,7 +19,7 @@ from beemodel.cubes import solve_in_cubes
 from beemodel.cubes.clauses import Compiled
 from beemodel.cubes.conquest import outcome_of
 from beemodel.cubes.hints import Hints
-from beemodel.cubes.joining import Hinted, NoHints, join
+from beemodel.cubes.joining import Hinted, NoHints, Restated, join
 from beemodel.cubes.lookahead import LookAhead
 from beemodel.cubes.program import Bee, first_of, goal_of, second_of
 from beemodel.cubes.tree import Journal, Tree
@@ -170,10 +170,11 @@ class Joining(Folder):
             tree.split[name] = choice.literal
         compiled.write_for_workers(self.at, 5)
         (self.at / "solver").write_text(f"{kind} {solver}\n")
-        for name in list(tree.leaves()):
+        for number, name in enumerate(tree.leaves(), 1):
+            tree.take(["given", name, str(number)])
             literals = map(str, tree.cube(name).literals)
             with open(self.at / f"part.{name}", "w") as part:
-                words = ["sh", str(WORKER), str(self.at), name, str(os.getpid()), *literals]
+                words = ["sh", str(WORKER), str(self.at), name, str(number), str(os.getpid()), *literals]
                 subprocess.run(words, stdout=part, check=True)
             self.assertEqual(outcome_of(self.at / f"part.{name}").what, "refuted")
             (self.at / f"part.{name}").rename(self.at / name)
@@ -190,13 +191,22 @@ class Joining(Folder):
         compiled, tree = self.parts("bee", PROGRAM)
         self.assertEqual(self.certified(compiled, tree), (0, ""))
 
+    def test_lines_under_a_weaker_bound_are_restated(self):
+        """The bound comes first, the worker's one by its id here, and what the bound makes true is gone."""
+        restated = Restated(-7, 100, 200)
+        lines = ["11 3 4 0 100 5 0\n", "12 -7 4 0 5 0\n", "13 4 0 12 11 0\n", "14 0 13 0\n"]
+        told = ["11 3 4 0 100 200 5 0\n", "", "13 4 0 100 11 0\n", "14 0 100 13 0\n"]
+        self.assertEqual([restated.line(it) for it in lines], told)
+
     def test_a_part_that_is_none_is_told_by_its_cube(self):
         compiled, tree = self.parts("bee", PROGRAM)
         for name in sorted(tree.refuted):
             kept = (self.at / name).read_text()
             lines = kept.splitlines(True)
             ends = [k for k, it in enumerate(lines) if not it.startswith("c")]
-            for changed in (lines[: ends[-1]], [it for it in lines if it.startswith("c")], ["c bound\n", "9 x\n"]):
+            others = [f"9{it}" if it[0] != "c" else it for it in lines]
+            none = [it for it in lines if it.startswith("c")]
+            for changed in (lines[: ends[-1]], none, others, ["c bound\n", "9 x\n"]):
                 (self.at / name).write_text("".join(changed))
                 with self.subTest(name=name, lines=len(changed)):
                     try:
@@ -301,7 +311,8 @@ class Commands(Folder):
         lying = 'echo "s UNSATISFIABLE"; echo "999999 0 1 0"; exit'
         cut = '"$BEE" "$@" | head -n 3; exit'
         values = 'echo "s SATISFIABLE"; echo "v 1 0"; exit'
-        for script in ("exit 1", "kill -9 $$", lying, cut, values):
+        full = 'ulimit -f 1; "$BEE" "$@"; exit'
+        for script in ("exit 1", "kill -9 $$", lying, cut, values, full):
             with self.subTest(script=script):
                 solver = self.solver(f'if mkdir "$ONCE" 2>/dev/null; then {script}; fi')
                 code, told = self.run_command(pigeons(7), "--look", "0", "--solver", solver)
@@ -310,6 +321,28 @@ class Commands(Folder):
                 shutil.rmtree(self.at / "work")
                 self.assertRegex(told, r"cube c[01]+ \(")
                 self.check("UNSATISFIABLE")
+
+    def test_what_is_killed_beside_the_worker_is_not_waited_for(self):
+        """What runs the worker, so that nothing tells how its cube ended."""
+        above = "ps -o ppid= -p $PPID"
+        solver = self.solver(f'if mkdir "$ONCE" 2>/dev/null; then kill -9 $({above}); sleep 3; fi')
+        code, told = self.run_command(pigeons(7), "--look", "0", "--solver", solver)
+        self.assertEqual(code, 0, told)
+        self.assertRegex(told, r"cube c[01]+ \(.*failed on -: its worker ended with code 1")
+        self.check("UNSATISFIABLE")
+
+    def test_a_run_whose_folder_is_taken_away_ends(self):
+        words = self.words(pigeons(7), "--look", "0", "--solver", self.solver("sleep 60"))
+        process = subprocess.Popen(words, stderr=subprocess.PIPE, stdout=subprocess.DEVNULL, env=self.environment())
+        self.addCleanup(process.kill)
+        for _ in range(600):
+            if (self.at / "work/slot.1").exists():
+                break
+            time.sleep(0.1)
+        shutil.rmtree(self.at / "work")
+        _, told = process.communicate(timeout=60)
+        self.assertEqual(process.returncode, 4)
+        self.assertIn(b"is gone", told)
 
     def test_a_cube_that_always_fails_ends_the_run_and_keeps_the_journal(self):
         words = ["--look", "0", "--retries", "1", "--solver", self.solver("exit 1")]
@@ -324,25 +357,26 @@ class Commands(Folder):
         self.check("UNSATISFIABLE")
 
     def test_a_run_that_is_ended_goes_on(self):
-        slow = self.solver(f'echo "$CNF" >>{self.at}/calls; [ "$(wc -l <{self.at}/calls)" -gt 3 ] && exec sleep 60')
+        """Three workers refute their cubes, and the others sleep."""
         for number in (signal.SIGINT, signal.SIGKILL):
             with self.subTest(signal=number):
+                turns = " || ".join(f"mkdir {self.at}/{number}.{it} 2>/dev/null" for it in range(3))
+                slow = self.solver(f"{turns} || exec sleep 60")
                 words = self.words(pigeons(7), "--look", "0", "--cubes", "8", "--solver", slow)
                 process = subprocess.Popen(words, stderr=subprocess.PIPE, env=self.environment())
+                self.addCleanup(process.kill)
                 self.wait_for_refuted(3)
                 process.send_signal(number)
                 process.wait()
                 told = process.stderr.read()
                 process.stderr.close()
                 self.assertTrue(number == signal.SIGKILL or b"--resume goes on" in told)
-                (self.at / "calls").unlink()
                 quick = self.solver(f'echo "$CNF" >>{self.at}/calls')
                 code, told = self.run_command(pigeons(7), "--look", "0", "--solver", quick, "--resume")
                 self.assertEqual((code, told), (0, ""))
                 self.check("UNSATISFIABLE")
                 self.assertEqual(len((self.at / "calls").read_text().splitlines()), 5)
                 (self.at / "calls").unlink()
-                self.solver(f'echo "$CNF" >>{self.at}/calls; [ "$(wc -l <{self.at}/calls)" -gt 3 ] && exec sleep 60')
 
     def wait_for_refuted(self, count: int) -> None:
         journal = self.at / "work/journal"
@@ -351,6 +385,14 @@ class Commands(Folder):
                 return
             time.sleep(0.1)
         self.fail("the workers did not begin")
+
+    def test_a_cube_that_is_given_up_is_split_again(self):
+        spent = self.solver('if mkdir "$ONCE" 2>/dev/null; then echo "s UNKNOWN"; exit 8; fi')
+        code, told = self.run_command(pigeons(7), "--look", "0", "--cubes", "1", "--solver", spent, "--progress")
+        self.assertEqual(code, 0, told)
+        self.assertRegex(told, r"[1-9] split")
+        self.assertNotIn("failed", told)
+        self.check("UNSATISFIABLE")
 
     def test_a_cube_past_its_share_is_split_again(self):
         count = 'n=$(grep -c "^[0-9]* 0$" "$CNF"); m=$(grep -c "^-[0-9]* 0$" "$CNF")'
@@ -377,10 +419,12 @@ class Commands(Folder):
     def test_bad_input_is_told_before_anything_runs(self):
         (self.at / "hosts").write_text("1/:\n2/false\n")
         (self.at / "empty").write_text("# none\n")
+        (self.at / "idle").write_text("1/:\n0/other\n")
         cases = [
             ("new_bool(a)\nsolve minimize a\n", [], 3, "model: statement 2: kind"),
             (pigeons(5), ["--hosts", str(self.at / "hosts")], 4, "can't be reached"),
             (pigeons(5), ["--hosts", str(self.at / "empty")], 4, "names no host"),
+            (pigeons(5), ["--hosts", str(self.at / "idle")], 4, "other has no worker"),
             (pigeons(5), ["--hosts", str(self.at / "nothing")], 4, "No such file"),
             (pigeons(5), ["--solver", "no-such-solver"], 4, "there is no no-such-solver on this machine"),
             (pigeons(5), ["--jobs", "0"], 2, "less than 1"),

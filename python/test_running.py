@@ -307,6 +307,14 @@ class Resumed(unittest.TestCase):
         self.assertEqual((answer.verdict, answer.objective), ("OPTIMUM", -1))
         self.assertEqual(self.kept.read_text(), "x = 4\nrain = false\n")
 
+    def test_a_solution_is_kept_where_the_search_is_ended_before_it(self):
+        slow = self.program.read_text().replace("; model=", '; [ "$(wc -l <"$2")" -gt 2 ] && exec sleep 60; model=')
+        self.program.write_text(slow)
+        model, x, y = two()
+        answer = model.solve(seconds=1, start={x: 3, y: 3}, program=str(self.program))
+        self.assertEqual((answer.verdict, answer.stopped), ("UNKNOWN", "seconds"))
+        self.assertEqual((answer.objective, answer[x], answer[y]), (6, 3, 3))
+
     def test_the_last_call_begins_with_the_best_plan(self):
         answer = shop(4, 3, 2).improve(60, steps=2, seed=1, program=str(self.program))
         self.assertEqual(answer.verdict, "OPTIMUM")
@@ -323,6 +331,20 @@ class Cubes(unittest.TestCase):
             answer = model.solve(program=PROGRAM, **how)
             self.assertEqual((answer.verdict, answer.objective, answer.bound), ("OPTIMUM", 2, 2))
             self.assertEqual((answer[x], answer[y]), (1, 1))
+
+    def test_seconds(self):
+        """The best plan that a worker found is kept, and no process is left."""
+        if shutil.which("parallel") is None or shutil.which("flock") is None:
+            self.skipTest("there is no GNU parallel")
+        model, ends = ruler(11)
+        found = []
+        answer = model.solve(jobs=2, seconds=8, on_solution=found.append, program=PROGRAM)
+        self.assertEqual((answer.verdict, answer.stopped), ("UNKNOWN", "seconds"))
+        if found:
+            self.assertEqual((answer.objective, answer.values), (found[-1].objective, found[-1].values))
+            self.assertEqual(answer[ends[-1]], answer.objective)
+            self.assertTrue(is_solution(model, answer.values))
+        self.assertEqual(children(), 0)
 
 
 class Improved(unittest.TestCase):

@@ -366,16 +366,16 @@ class Model:
         `presolve=False` leaves out both, and all that narrows domains.
 
         With `jobs` so many workers solve the model's cubes side by side, on this machine or on each
-        of the `hosts`, which are a list or a file of them; the arguments before have no effect
-        then, but for `program`, `folder` and `progress`.
+        of the `hosts`, which are a list or a file of them; `budget` and `start` have no effect then.
         """
         first = {} if start is None else self.start_values(start)
         told, begun = self.own_found(on_solution), time.monotonic()
 
         def run(text: str, plan: Values) -> Answer:
-            if jobs is not None or hosts is not None:
-                return cubes_text(text, jobs or 1, hosts, program, folder, progress)
             left = None if seconds is None else max(0.0, seconds + begun - time.monotonic())
+            if jobs is not None or hosts is not None:
+                limits = Limits(None, left, told, progress, program)
+                return cubes_text(text, jobs or 1, hosts, limits, folder)
             known = first or (plan if resumes(program_of(program)) else {})
             return solve_text(text, budget, program, folder, left, told, progress, known)
 

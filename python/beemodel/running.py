@@ -103,6 +103,16 @@ class Watch:
         if self.asked.on_found is not None:
             self.asked.on_found(self.best)
 
+    def take_values(self, values: Values) -> None:
+        """Takes the values of a solution, where it is better than what is known."""
+        numbers = tuple(int(values[it]) for it in self.goal.names)
+        if self.best is not None and not self.goal.is_better(numbers, self.best.objectives):
+            return
+        self.best = Found(numbers, values, 0, self.seconds())
+        self.steps.append(Step(numbers, 0, self.best.seconds))
+        if self.asked.on_found is not None:
+            self.asked.on_found(self.best)
+
     def show(self, line: str) -> None:
         """Shows a line of the program and the seconds, where that is wanted."""
         if self.asked.progress:
@@ -263,10 +273,17 @@ def solve_text(
 def begun_answer(text: str, asked: Limits, at: Path, start: Mapping[str, Value]) -> Answer:
     """The answer of a search that begins from values: by `bee resume`, or, where the program has no
     such mode, behind a search in a copy of the text in which the values are stated."""
-    wishes = wished(text, start)
+    wishes, watch = wished(text, start), Watch(text, asked)
     if resumes(program_of(asked.program)):
-        return search_answer(text, asked, at, wishes_file(wishes, at))
-    watch = Watch(text, asked)
+        answer = search_answer(text, asked, at, wishes_file(wishes, at))
+        if answer.values is not None or answer.verdict != "UNKNOWN":
+            return answer
+        # It was ended before it came upon the values.
+        known, _ = stated_first(text, wishes, asked, at)
+        if known is None:
+            return answer
+        made = known_answer(text, answer.count_of_clauses or 0, known, asked, at)
+        return with_run(made, text, asked, watch, Proof(), answer.stopped)
     known, stopped = stated_first(text, wishes, asked, at)
     if known is not None and (stopped == "interrupt" or not known.objectives):
         answer = known_answer(text, known.count_of_clauses, known, asked, at)
@@ -295,8 +312,8 @@ def resumes(program: str) -> bool:
     """Whether the program has the mode `resume`."""
     with tempfile.TemporaryDirectory(prefix="beemodel-") as room:
         model, values = Path(room, "model.bee"), Path(room, "start.values")
-        model.write_text(f"{SATISFY}\n", encoding="ascii")
-        values.write_text("", encoding="ascii")
+        model.write_text(f"new_bool(x)\n{SATISFY}\n", encoding="ascii")
+        values.write_text(value_line("x", True), encoding="ascii")
         words = [program, "resume", str(model), str(values)]
         return watched(words, Path(room, "answer"), lambda line: False).code == 0
 
@@ -324,24 +341,47 @@ def stated_first(
     return best, stopped
 
 
-def cubes_text(
-    text: str, jobs: int, hosts: Optional[Hosts], program: Optional[str], folder: Folder, progress: bool
-) -> Answer:
+def cubes_text(text: str, jobs: int, hosts: Optional[Hosts], asked: Limits, folder: Folder) -> Answer:
     """Answers the text of a model by workers side by side, and checks the answer. With a folder, the
-    texts stay there."""
-    from .cubes import solve_in_cubes
+    texts stay there. At the limit, or by an interrupt, the best solution is checked that is known."""
+    from .cubes import OutOfTime, solve_in_cubes
 
+    watch, stopped, proof = Watch(text, asked), None, Proof()
     with tempfile.TemporaryDirectory(prefix="beemodel-") as room:
-        listed = None if hosts is None else Path(room, "hosts")
-        if isinstance(hosts, (str, Path)):
-            listed = Path(hosts)
-        elif listed is not None and hosts is not None:
-            listed.write_text("".join(f"{it}\n" for it in hosts))
-        at = folder or Path(room, "cubes")
-        answer = solve_in_cubes(text, jobs, listed, program=program, folder=at, progress=progress)
+        at = Path(folder or Path(room, "cubes"))
+        try:
+            answer = solve_in_cubes(
+                text,
+                jobs,
+                listed_hosts(hosts, Path(room)),
+                program=asked.program,
+                folder=at,
+                progress=asked.progress,
+                until=None if asked.seconds is None else watch.begun + asked.seconds,
+                on_values=watch.take_values,
+            )
+            proof = proof_of(at / "answer") if (at / "answer").exists() else proof
+        except OutOfTime:
+            stopped = "seconds"
+        except KeyboardInterrupt:
+            if watch.best is None:
+                raise
+            stopped = "interrupt"
+        if stopped is not None:
+            answer = known_answer(text, 0, watch.best, asked, Path(folder or room))
     answer.objectives = answer.optimum or answer.objectives
-    answer.bound = answer.optimum[0] if answer.optimum else bound_of(text, answer)
-    return answer
+    if answer.verdict == "SATISFIABLE" and answer.values is not None and asked.on_found is not None:
+        asked.on_found(Found((), answer.values, 0, watch.seconds()))
+    return with_run(answer, text, asked, watch, proof, stopped)
+
+
+def listed_hosts(hosts: Optional[Hosts], room: Path) -> Optional[Path]:
+    """The file of hosts, made in a folder where they are a list."""
+    if hosts is None or isinstance(hosts, (str, Path)):
+        return None if hosts is None else Path(hosts)
+    listed = room / "hosts"
+    listed.write_text("".join(f"{it}\n" for it in hosts))
+    return listed
 
 
 def run_checked(

@@ -5,10 +5,11 @@ import heapq
 import os
 import shutil
 import time
+from collections.abc import Callable
 from pathlib import Path
 from typing import NamedTuple, Optional, Protocol
 
-from ..answers import ProgramError
+from ..answers import ProgramError, Values
 from .clauses import Compiled, last_clause
 from .engines import Ended
 from .joining import Hinted, Joined, NoHints, Plain, join
@@ -34,6 +35,10 @@ class Engine(Protocol):
     def leave_out(self, machine: str) -> bool: ...
 
 
+class OutOfTime(Exception):
+    """The time of a run is spent."""
+
+
 class NoEngine:
     """What stands in the engine's place until the run begins."""
 
@@ -53,13 +58,16 @@ class NoEngine:
 
 class Settings(NamedTuple):
     """How many cubes are made first, whether the workers' lines have hints, behind how many seconds a cube may be split
-    again, how often one that failed runs again, and whether progress is told."""
+    again, how often one that failed runs again, whether progress is told, when the run ends by the clock of `time`, and
+    what takes the values of each better solution."""
 
     cubes: int
     are_hinted: bool = False
     share: float = 5.0
     retries: int = 3
     progress: bool = False
+    until: Optional[float] = None
+    on_values: Optional[Callable[[Values], object]] = None
 
 
 class Outcome(NamedTuple):
@@ -110,6 +118,7 @@ class Conquest:
         self.is_found, self.is_closed = False, False
         self.bound: Optional[list[int]] = None
         self.told, self.told_at = "", 0.0
+        self.wall_clock = 0.0
         self.engine: Engine = NoEngine()
 
     # Cubes are made.
@@ -161,11 +170,13 @@ class Conquest:
 
     def run(self, engine: Engine) -> None:
         """Runs until every cube is refuted, or a solution is found where any serves."""
-        self.engine = engine
+        self.engine, begun = engine, time.monotonic()
         if self.bound:
             engine.bound(self.bound[0])
         self.queue(self.tree.open_leaves())
         while self.tree.open_leaves() and not self.is_found:
+            if self.settings.until is not None and time.monotonic() > self.settings.until:
+                raise OutOfTime
             if self.is_closed:
                 self.tree.close_all()
                 break
@@ -175,11 +186,14 @@ class Conquest:
             self.stop_long_ones()
             self.show()
         self.show(always=True)
+        self.wall_clock += time.monotonic() - begun
 
     def queue(self, names: list[str], avoided: str = "-") -> None:
         """Hands cubes to the engine, which begins them in this order as workers are free."""
         if not names:
             return
+        for it in names:
+            self.journal.add("given", it, self.tree.last_number + 1)
         self.engine.queue([self.tree.cube(it) for it in names], avoided)
         self.waiting += names
         self.start_waiting()
@@ -225,6 +239,7 @@ class Conquest:
             self.take_failure(end)
         if outcome.what != "failed":
             self.unreached.pop(end.machine, None)
+        path.unlink(missing_ok=True)
         self.start_waiting()
 
     def take_values(self, end: Ended, path: Path) -> None:
@@ -241,8 +256,14 @@ class Conquest:
         if self.goal.is_better(value, self.journal.best):
             path.replace(self.values)
             self.journal.add("best", value)
+            self.hand_on(found)
             self.take_bound()
         self.queue([end.name])
+
+    def hand_on(self, values: Values) -> None:
+        """Hands a better solution to who asked for it."""
+        if self.settings.on_values is not None:
+            self.settings.on_values(values)
 
     def take_bound(self) -> None:
         """Tells the workers what is better than the best value. Where nothing can be, all cubes are refuted."""
@@ -300,6 +321,7 @@ class Conquest:
         if not bad and line == 0:
             if self.settings.progress:
                 size, below = found.stat().st_size, os.times().children_user - below
+                tell(f"the workers were done in {self.wall_clock:.1f} seconds")
                 tell(f"{size} bytes, joined in {took:.1f} seconds and certified in {below:.1f}, of CPU time")
             found.unlink()
             return True

@@ -3,16 +3,22 @@ from __future__ import annotations
 
 import os
 import queue
+import shlex
 import shutil
 import signal
 import subprocess
 import threading
 import time
+from contextlib import suppress
 from pathlib import Path
 from typing import NamedTuple, Optional
 
 from .machines import HERE, Machine, on_machine
 from .tree import Cube
+
+
+# Tells of a cube, by the line that `slot.sh` was given, that nothing is known of it.
+LOST = "(set -- {}; echo \"${1%% *} - 0 1\")"
 
 
 class EngineError(Exception):
@@ -26,6 +32,9 @@ class Ended(NamedTuple):
     machine: str
     slot: str
     code: int
+
+
+NOTHING = Ended("", "", "", 0)
 
 
 def ended(line: str) -> Ended:
@@ -48,7 +57,8 @@ class GnuParallel:
         (folder / "slots").write_text("".join(slots))
         (folder / "controller").write_text(f"{os.getpid()}\n")
         words = ["parallel", "--plain", "--will-cite", "--ungroup", "--jobs", str(self.workers)]
-        words += ["sh", str(HERE / "slot.sh"), str(folder), "{}"]
+        # What was killed before it told its end is told here.
+        words += [f"sh {shlex.quote(str(HERE / 'slot.sh'))} {shlex.quote(str(folder))} {{}} || {LOST}"]
         self.process = subprocess.Popen(
             words,
             stdin=subprocess.PIPE,
@@ -57,7 +67,8 @@ class GnuParallel:
             bufsize=1,
             start_new_session=True,
         )
-        threading.Thread(target=self.listen, daemon=True).start()
+        self.listener = threading.Thread(target=self.listen, daemon=True)
+        self.listener.start()
 
     def listen(self) -> None:
         assert self.process.stdout is not None
@@ -71,7 +82,7 @@ class GnuParallel:
         others = [it for it in self.machines if str(it.number) != avoided]
         for it in cubes:
             literals = " ".join(map(str, it.literals))
-            self.process.stdin.write(f"{it.name} {avoided if others else '-'} {literals}\n")
+            self.process.stdin.write(f"{it.name} {it.number} {avoided if others else '-'} {literals}\n")
         self.process.stdin.flush()
 
     def next(self, seconds: float) -> Optional[Ended]:
@@ -79,10 +90,12 @@ class GnuParallel:
         try:
             found = self.ends.get(timeout=seconds)
         except queue.Empty:
-            return None
+            found = NOTHING
+        if not (self.folder / "slots").exists():
+            raise EngineError(f"the folder of work {self.folder} is gone")
         if found is None:
             raise EngineError(f"GNU parallel ended with code {self.process.wait()}")
-        return found
+        return None if found is NOTHING else found
 
     def stop(self, name: str) -> None:
         """Has the worker of a cube stopped, wherever it is."""
@@ -118,6 +131,13 @@ class GnuParallel:
             self.process.wait(2)
         except subprocess.TimeoutExpired:
             self.process.kill()
+            self.process.wait()
+        # What a worker has left open on standard output may outlive them.
+        self.listener.join(2)
+        for stream in (self.process.stdin, self.process.stdout):
+            if stream is not None and not self.listener.is_alive():
+                with suppress(OSError):
+                    stream.close()
 
 
 def processes_below(process: int) -> list[int]:
@@ -153,7 +173,7 @@ class Slurm:
         """Submits an array job of the cubes."""
         self.lists += 1
         listed = self.folder / f"array.{os.getpid()}.{self.lists}"
-        listed.write_text("".join(f"{it.name} {' '.join(map(str, it.literals))}\n" for it in cubes))
+        listed.write_text("".join(f"{it.name} {it.number} {' '.join(map(str, it.literals))}\n" for it in cubes))
         words = ["sbatch", "--parsable", "--requeue", "--job-name=bee-cubes", "--output=/dev/null"]
         words += [f"--array=0-{len(cubes) - 1}%{self.workers}"]
         words += [] if avoided == "-" else [f"--exclude={avoided}"]

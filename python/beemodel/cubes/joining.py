@@ -8,7 +8,11 @@ from typing import NamedTuple, Optional, TextIO
 
 from .clauses import Compiled
 from .hints import Hints
-from .tree import ROOT, Tree
+from .tree import ROOT, Cube, Tree
+
+
+# The ids of a part's lines are its cube's number times this and a number below.
+PART = 10**7
 
 
 class Joined(NamedTuple):
@@ -61,16 +65,15 @@ class Plain:
 
 
 class Hinted:
-    """Lines with hints. A part names the clauses by their ids, then those of the cube's literals and of the bound that
-    its worker had, and then its own."""
+    """Lines with hints. A part has the ids and the clauses that the joined text has, under ids that begin with its
+    cube's number; those of the clauses that close the tree begin with the next number that no cube has."""
 
     def __init__(self, tree: Tree, parts: Path, compiled: Compiled, bound: Optional[list[int]]):
         self.tree, self.parts = tree, parts
         self.count = len(compiled.clauses)
         self.hints, self.bound = Hints(compiled, bound), bound[0] if bound else None
-        self.units = {it[0] for it in compiled.clauses if len(it) == 1}
         # The id that the next clause has; the ids of cubes' clauses; and those of bounds.
-        self.next = self.count + 2
+        self.next = (tree.last_number + 1) * PART
         self.ids: dict[str, int] = {}
         self.bounds = {bound[0]: self.count + 1} if bound else {}
 
@@ -82,7 +85,7 @@ class Hinted:
             self.ids[name] = self.count + 1
             return
         if name in self.tree.refuted:
-            yield from self.part(name, literals)
+            yield from self.part(self.tree.cube(name))
             return
         if name in self.tree.closed:
             hints = self.hints.refute(literals)
@@ -92,57 +95,42 @@ class Hinted:
             hints = [self.ids[f"{name}0"], self.ids[f"{name}1"]]
         yield self.shown(name, [-it for it in literals], hints)
 
-    def line(self, name: str, literals: list[str], hints: list[str]) -> str:
+    def shown(self, name: str, literals: list[int], hints: list[int]) -> str:
         """A clause under the next id."""
         self.ids[name] = self.next
         self.next += 1
-        return f"{self.ids[name]} {' '.join([*literals, '0', *hints])} 0\n"
+        return f"{self.ids[name]} {' '.join(map(str, [*literals, 0, *hints]))} 0\n"
 
-    def shown(self, name: str, literals: list[int], hints: list[int]) -> str:
-        """A clause of numbers under the next id."""
-        return self.line(name, [str(it) for it in literals], [str(it) for it in hints])
-
-    def part(self, name: str, literals: tuple[int, ...]) -> Iterator[str]:
-        """The lines of a part under ids of their own. Ids of this text are words, and empty for what is no clause
-        here."""
-        ids: dict[str, str] = {}
-        cleaner, own = None, ["no line"]
-        behind = [str(-it) for it in literals]
-        negated = set(behind)
-        with open(self.parts / name, errors="replace") as text:
+    def part(self, cube: Cube) -> Iterator[str]:
+        """The lines of a part, whose ids are those of its cube, and the last of which is the clause that leaves the
+        cube out."""
+        last, restated = "", None
+        with open(self.parts / cube.name, errors="replace") as text:
             for line in text:
-                words = line.split()
-                if words[:2] == ["c", "bound"]:
-                    bound = int(words[2]) if len(words) > 2 else None
-                    yield from self.bound_line(name, bound)
-                    ids = self.unit_ids(literals, bound)
-                    if self.bound and self.bound != bound:
-                        cleaner = Cleaner(self.hints.clauses, self.bound, self.bounds)
-                if words[:1] == ["c"]:
+                if line.startswith("c bound"):
+                    bound = bound_of(line)
+                    yield from self.bound_line(cube.name, bound)
+                    restated = self.restated(bound)
+                if line.startswith("c"):
                     continue
-                if words[-1:] != ["0"] or "0" not in words[1:-1]:
-                    raise NoHints(name)
-                end = words.index("0", 1)
-                own = words[1:end]
-                clause = [it for it in own if it not in negated] + behind
-                hints = [ids.get(it, it) for it in words[end + 1 : -1]]
-                if cleaner:
-                    hints = cleaned(cleaner, name, self.next, clause, hints)
-                ids[words[0]] = str(self.next) if hints else ""
-                if hints:
-                    yield self.line(name, clause, hints)
-        if own:
-            raise NoHints(name)
+                number = line.partition(" ")[0]
+                if not number.isdecimal() or int(number) // PART != cube.number:
+                    raise NoHints(cube.name)
+                last = line
+                line = line if restated is None else restated.line(line)
+                if line:
+                    yield line
+        clause = clause_of(cube.name, last)
+        if {*clause} != {str(-it) for it in cube.literals}:
+            raise NoHints(cube.name)
+        self.ids[cube.name] = int(last.partition(" ")[0])
 
-    def unit_ids(self, literals: tuple[int, ...], bound: Optional[int]) -> dict[str, str]:
-        """What the ids of a worker's units are here. One that is a clause already has no id of its own."""
-        found, seen, number = {}, set(self.units), self.count
-        for it in (*literals, *([] if bound is None else [bound])):
-            if it not in seen:
-                seen.add(it)
-                number += 1
-                found[str(number)] = "" if it in literals else str(self.bounds[it])
-        return found
+    def restated(self, bound: Optional[int]) -> Optional[Restated]:
+        """What restates lines of a worker that had another bound, or none."""
+        if self.bound is None or self.bound == bound:
+            return None
+        number = None if bound is None else self.bounds[bound]
+        return Restated(self.bound, self.count + 1, number)
 
     def bound_line(self, name: str, bound: Optional[int]) -> Iterator[str]:
         """The bound that a worker had, where another one is better by now: it follows from that one."""
@@ -154,41 +142,39 @@ class Hinted:
             self.bounds[bound] = self.ids[f"bound {bound}"]
 
 
-class Cleaner:
-    """Hints of a part whose worker had a weaker bound, or none, by which each line follows once the bound is true from
-    the start: a clause that this makes true, or tells nothing new, is no hint."""
+def bound_of(line: str) -> Optional[int]:
+    """The bound that a part says that its worker had."""
+    words = line.split()
+    return int(words[2]) if len(words) > 2 else None
 
-    def __init__(self, clauses: list[list[int]], bound: int, bounds: dict[int, int]):
-        self.clauses, self.bound = clauses, bound
-        self.added = {number: [literal] for literal, number in bounds.items()}
 
-    def clean(self, number: int, clause: list[int], hints: list[int]) -> list[int]:
-        """The hints of the next clause, that of the bound first; none where the bound makes the clause true, which is
-        then left out."""
-        self.added[number] = clause
+def clause_of(name: str, line: str) -> list[str]:
+    """The literals of a line with hints."""
+    words = line.split()
+    if words[-1:] != ["0"] or "0" not in words[1:-1]:
+        raise NoHints(name)
+    return words[1 : words.index("0", 1)]
+
+
+class Restated:
+    """Lines of a part whose worker had a weaker bound, or none, restated so that they follow once the bound, whose id
+    is `own`, is true from the start: it is the first hint of each. A clause that it makes true is left out, since it
+    tells nothing then. `number` is the id of the worker's bound, which its lines name `own`."""
+
+    def __init__(self, bound: int, own: int, number: Optional[int]):
+        self.bound, self.own = str(bound), str(own)
+        self.number = self.own if number is None else str(number)
+        self.gone: set[str] = set()
+
+    def line(self, line: str) -> str:
+        """A line of the part; empty where it is left out."""
+        head, _, hints = line.partition(" 0 ")
+        number, *clause = head.split()
         if self.bound in clause:
-            return []
-        false = {*clause, -self.bound}
-        kept = [len(self.clauses)]
-        for it in hints:
-            lits = self.added[it] if it in self.added else self.clauses[it - 1]
-            still_open = [lit for lit in lits if lit not in false]
-            if len(still_open) > 1 or (still_open and -still_open[0] in false):
-                continue
-            kept.append(it)
-            if not still_open:
-                break
-            false.add(-still_open[0])
-        return kept
-
-
-def cleaned(cleaner: Cleaner, name: str, number: int, clause: list[str], hints: list[str]) -> list[str]:
-    """The hints that a cleaner leaves of a line of a cube's part."""
-    try:
-        kept = cleaner.clean(number, [int(it) for it in clause], [int(it) for it in hints if it])
-    except (ValueError, KeyError, IndexError) as fault:
-        raise NoHints(name) from fault
-    return [str(it) for it in kept]
+            self.gone.add(number)
+            return ""
+        kept = [self.number if it == self.own else it for it in hints.split() if it not in self.gone]
+        return f"{head} 0 {self.own} {' '.join(kept)}\n"
 
 
 def join(tree: Tree, lines: Plain | Hinted, values: Optional[Path], to: TextIO) -> Joined:

@@ -8,12 +8,16 @@ import shutil
 import socket
 import subprocess
 import sys
+from concurrent.futures import ThreadPoolExecutor
 from pathlib import Path
 from typing import NamedTuple
 
 from ..answers import ProgramError
 
 HERE = Path(__file__).resolve().parent
+
+# Behind a line of this a text that is sent has ended.
+MARK = "the end of what the command beemodel.cubes sends"
 
 # What reaches a machine that is named without words of its own.
 SSH = "ssh -o BatchMode=yes -o ConnectTimeout=10 -o ServerAliveInterval=5 -o ServerAliveCountMax=3"
@@ -49,6 +53,8 @@ def read_hosts(listed: Path, folder: Path, jobs: int, away: str) -> list[Machine
             continue
         count, slash, rest = line.partition("/")
         slots, login = (int(count), rest) if slash and count.isdigit() else (jobs, line)
+        if slots == 0:
+            raise ProgramError(f"{listed}: {login} has no worker")
         if login == ":":
             found.append(this_machine(folder, slots)._replace(number=len(found)))
             continue
@@ -67,35 +73,47 @@ def on_machine(machine: Machine, script: str) -> subprocess.Popen[bytes]:
     return subprocess.Popen(words, stdin=null, stdout=null, stderr=null, start_new_session=True)
 
 
-def ask_machine(machine: Machine, script: str, given: bytes = b"") -> str:
-    """Runs a script on a machine. The answer is empty, or what it told where it failed."""
+def ran_on(machine: Machine, script: str, given: bytes = b"") -> tuple[int, str]:
+    """Runs a script on a machine. The answer is the exit code, and what it told where that isn't 0."""
     words = ["sh", "-c", script] if machine.is_here else [*shlex.split(machine.login), script]
     ran = subprocess.run(words, input=given, capture_output=True, check=False)
     told = ran.stderr.decode(errors="replace").strip()
-    return "" if ran.returncode == 0 else told or f"code {ran.returncode}"
+    return ran.returncode, told or f"code {ran.returncode}"
+
+
+def look_at(machine: Machine, solver: str) -> None:
+    """Looks whether a machine can be reached and has the solver."""
+    code, told = ran_on(machine, f"command -v {shlex.quote(solver)} >/dev/null || exit 3")
+    if code == 3:
+        raise ProgramError(f"there is no {solver} on {'this machine' if machine.is_here else machine.name}")
+    if code:
+        raise ProgramError(f"host {machine.name} can't be reached: {told}")
 
 
 def prepare(machine: Machine, kind: str, solver: str, made: Path) -> None:
-    """Makes the folder of work of a machine, with what a worker reads. The solver is looked for first."""
-    told = ask_machine(machine, "true")
-    if told:
-        raise ProgramError(f"host {machine.name} can't be reached: {told}")
-    if ask_machine(machine, f"command -v {shlex.quote(solver)}"):
-        raise ProgramError(f"there is no {solver} on {'this machine' if machine.is_here else machine.name}")
+    """Makes the folder of work of a machine, with what a worker reads."""
+    texts = {it: (made / it).read_text() for it in ("size", "clauses", "share")}
+    texts["worker.sh"] = (HERE / "worker.sh").read_text()
+    texts["solver"] = f"{kind} {solver}\n"
     folder = shlex.quote(machine.folder)
-    told = ask_machine(machine, f"rm -rf {folder} && mkdir -p {folder}")
-    texts = {it: (made / it).read_bytes() for it in ("size", "clauses", "share")}
-    texts["worker.sh"] = (HERE / "worker.sh").read_bytes()
-    texts["solver"] = f"{kind} {solver}\n".encode()
-    for name, text in texts.items():
-        told = told or ask_machine(machine, f"cat >{folder}/{name}", text)
-    if told:
+    script = [f"set -e\nrm -rf {folder}\nmkdir -p {folder}\ncd {folder}\n"]
+    script += [f"cat >{name} <<'{MARK}'\n{text}{MARK}\n" for name, text in texts.items()]
+    code, told = ran_on(machine, "sh", "".join(script).encode())
+    if code:
         raise ProgramError(f"{machine.name}: {told}")
 
 
-def forget(machine: Machine) -> None:
-    """Removes the folder of work of a machine."""
-    ask_machine(machine, f"rm -rf {shlex.quote(machine.folder)}")
+def prepare_all(machines: list[Machine], kind: str, solvers: list[str], made: Path) -> None:
+    """Makes all machines ready, side by side; none before each was looked at."""
+    with ThreadPoolExecutor(max_workers=32) as pool:
+        list(pool.map(look_at, machines, solvers))
+        list(pool.map(lambda machine, solver: prepare(machine, kind, solver, made), machines, solvers))
+
+
+def forget_all(machines: list[Machine]) -> None:
+    """Removes the folders of work of all machines."""
+    with ThreadPoolExecutor(max_workers=32) as pool:
+        list(pool.map(lambda it: ran_on(it, f"rm -rf {shlex.quote(it.folder)}"), machines))
 
 
 def need_programs(names: list[str]) -> None:

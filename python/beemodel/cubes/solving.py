@@ -5,7 +5,7 @@ import fcntl
 import hashlib
 import shutil
 import tempfile
-from collections.abc import Iterator
+from collections.abc import Callable, Iterator
 from contextlib import contextmanager
 from pathlib import Path
 from typing import Any, NamedTuple, Optional, Union
@@ -17,9 +17,9 @@ from .conquest import Conquest, Settings
 from .engines import GnuParallel, Slurm
 from .machines import (
     Machine,
-    forget,
+    forget_all,
     need_programs,
-    prepare,
+    prepare_all,
     quiet_environment,
     read_hosts,
     tell,
@@ -34,7 +34,8 @@ CUBES_PER_WORKER, LOOK = 8, 1000
 
 class Request(NamedTuple):
     """What is asked: the number of workers here, or on each host that has none of its own; the hosts; Slurm; the
-    workers' solver; and the rest as the words of the command say it."""
+    workers' solver; the rest as the words of the command say it; and from a script when the run ends, by the clock
+    `time.monotonic`, and what takes the values of each better solution."""
 
     jobs: int = 1
     hosts: Optional[Path] = None
@@ -50,6 +51,8 @@ class Request(NamedTuple):
     resume: bool = False
     progress: bool = False
     away: str = "/tmp"
+    until: Optional[float] = None
+    on_values: Optional[Callable[[Values], object]] = None
 
 
 class Answered(NamedTuple):
@@ -129,8 +132,7 @@ def solve_one(text: str, folder: Path, ending: str, request: Request) -> Answere
         journal.close()
     journal_at.unlink()
     shutil.rmtree(folder / "parts")
-    for it in machines:
-        forget(it)
+    forget_all(machines)
     return made
 
 
@@ -162,7 +164,9 @@ def machines_of(folder: Path, request: Request) -> list[Machine]:
 def settings_of(request: Request, machines: list[Machine]) -> Settings:
     workers = sum(it.slots for it in machines)
     cubes = CUBES_PER_WORKER * workers if request.cubes is None else request.cubes
-    return Settings(cubes, request.worker == "bee", request.share, request.retries, request.progress)
+    is_hinted = request.worker == "bee"
+    told = (request.progress, request.until, request.on_values)
+    return Settings(cubes, is_hinted, request.share, request.retries, *told)
 
 
 def start_machines(conquest: Conquest, machines: list[Machine], request: Request) -> None:
@@ -170,11 +174,14 @@ def start_machines(conquest: Conquest, machines: list[Machine], request: Request
     need_programs(["sbatch", "squeue"] if request.slurm else ["parallel", "flock"])
     (conquest.folder / "out").mkdir(exist_ok=True)
     conquest.compiled.write_for_workers(conquest.folder, request.share)
-    for it in machines:
-        solver = request.solver or request.worker
-        if request.worker == "bee" and not request.solver and it.is_here:
-            solver = program_of(request.program)
-        prepare(it, request.worker, solver, conquest.folder)
+    prepare_all(machines, request.worker, [solver_of(it, request) for it in machines], conquest.folder)
+
+
+def solver_of(machine: Machine, request: Request) -> str:
+    """Where the workers' solver is on a machine."""
+    if request.worker == "bee" and not request.solver and machine.is_here:
+        return program_of(request.program)
+    return request.solver or request.worker
 
 
 def look_first(conquest: Conquest, budget: int, answer: Path) -> bool:
@@ -205,6 +212,7 @@ def take_first_values(conquest: Conquest, values: Values) -> None:
         return
     (folder / "named.values").replace(conquest.values)
     conquest.journal.add("best", values[conquest.goal.objectives[0]])
+    conquest.hand_on(values)
 
 
 def conquer(conquest: Conquest, machines: list[Machine], request: Request, answer: Path) -> None:
@@ -252,8 +260,9 @@ def solve_in_cubes(
 ) -> Answer:
     """Answers the text of a model by workers side by side, and has the answer checked.
 
-    `jobs` is how many workers there are here, or on each machine of the file `hosts`. `more` are the other fields of `Request`. With a folder, the texts stay there, and so does the
-    journal of a run that was ended.
+    `jobs` is how many workers there are here, or on each machine of the file `hosts`. `more` are the other fields of
+    `Request`. With a folder, the texts stay there, and so does the journal of a run that was ended. `OutOfTime` is
+    raised where the time that `until` names has come.
     """
     listed = Path(hosts) if hosts is not None else None
     request = Request(jobs, listed, program=program, **more)

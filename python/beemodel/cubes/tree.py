@@ -10,10 +10,12 @@ ROOT = "c"
 
 
 class Cube(NamedTuple):
-    """A cube: its name, that of the whole and `0` or `1` for each literal, and the literals."""
+    """A cube: its name, that of the whole and `0` or `1` for each literal, the literals, and the number with which the
+    ids of its lines begin, which is 0 until it is given to a worker."""
 
     name: str
     literals: tuple[int, ...]
+    number: int = 0
 
     def __str__(self) -> str:
         return f"{self.name} ({' '.join(map(str, self.literals))})"
@@ -26,12 +28,14 @@ class Tree:
         self.split: dict[str, int] = {}
         self.refuted: set[str] = set()
         self.closed: set[str] = set()
+        self.numbers: dict[str, int] = {}
+        self.last_number = 0
 
     def cube(self, name: str) -> Cube:
         """The cube of a name."""
         signs = zip(range(len(ROOT), len(name)), name[len(ROOT) :])
         literals = (self.split[name[:at]] * (1 if side == "0" else -1) for at, side in signs)
-        return Cube(name, tuple(literals))
+        return Cube(name, tuple(literals), self.numbers.get(name, 0))
 
     def leaves(self, name: str = ROOT) -> Iterator[str]:
         """The cubes that are not split, the first side first."""
@@ -60,6 +64,8 @@ class Tree:
                 self.split[name] = int(literal)
             case ["closed", name]:
                 self.closed.add(name)
+            case ["given", name, number]:
+                self.numbers[name] = self.last_number = int(number)
             case ["refuted", name, *_]:
                 self.refuted.add(name)
             case ["refused", name, *_]:

@@ -1,13 +1,17 @@
 #!/bin/sh
-# worker.sh FOLDER NAME KEEPER LITERAL ..: has one cube refuted, or a solution of it found, by the solver of FOLDER.
+# worker.sh FOLDER NAME NUMBER KEEPERS LITERAL ..: has one cube refuted, or a solution of it found, by the solver of
+# FOLDER.
 #
 # FOLDER has `size` (how many variables and clauses), `clauses`, `solver` (its kind and where it is), `share` and, once
 # a solution is known, `bound`: the literal that a better one makes true. On standard output come the lines of a
-# refutation, or the values; and, behind them, once all of it is written, `c end OUTCOME`. It ends the solver where
-# FOLDER/NAME.stop is there and the solver has taken the seconds of FOLDER/share, where the bound is another one and it
-# has not run for long, and where the process KEEPER, or that which started this where KEEPER is `-`, is gone.
-folder=$1 name=$2 keeper=$3
-shift 3
+# refutation, or the values; and, behind them, once all of it is written, `c end OUTCOME`. Lines with hints are those
+# that the joined text has: their ids begin with NUMBER, and their clauses have the cube's negated literals. It ends the
+# solver where FOLDER/NAME.stop is there and the solver has taken the seconds of FOLDER/share, where the bound is
+# another one and it has not run for long, and where one of the processes KEEPERS, or that which started this where they
+# are `-`, is gone.
+folder=$1 name=$2 number=$3 keeper=$4
+shift 4
+cube=$*
 [ "$keeper" = - ] && keeper=$PPID
 at=$folder/$name
 forget() { rm -f "$at.cnf" "$at.proof" "$at.values" "$at.why" "$at.stop" "$at.times"; }
@@ -21,8 +25,7 @@ young=5
 current() { cat "$folder/bound" 2>/dev/null; }
 
 clauses() {
-  read -r variables count <"$folder/size"
-  echo "p cnf $variables $((count + $#))" && cat "$folder/clauses" && for literal; do echo "$literal 0"; done
+  echo "p cnf ${size% *} $((${size#* } + $#))" && cat "$folder/clauses" && for literal; do echo "$literal 0"; done
 }
 
 # The seconds of a processor that a process has taken, and what it began. They are many where nobody tells.
@@ -40,7 +43,8 @@ watch() {
   ran=0
   while sleep 1; do
     ran=$((ran + 1))
-    if ! kill -0 "$keeper" 2>/dev/null; then why=gone
+    # shellcheck disable=SC2086
+    if ! kill -0 $keeper 2>/dev/null; then why=gone
     elif [ -e "$at.stop" ] && [ "$(took "$1")" -ge "$share" ]; then why=stopped
     elif [ "$ran" -le "$young" ] && [ "$(current)" != "$bound" ]; then why=bound
     else continue
@@ -67,8 +71,50 @@ refutation() {
   echo "c bound $bound" || return 1
   case $kind in
     cadical) sed '/^d/d' "$at.proof" && echo 0 ;;
-    bee) sed -e 1d -e '/^[0-9]* d /d' "$at.values" ;;
+    bee) renumbered ;;
   esac
+}
+
+# Lines of bee under ids of the joined text. The solver names the clauses of the text as that does, and behind them the
+# units of the cube and of the bound, but for those that the text has: hints of the cube are left out, and that of the
+# bound is the id behind the clauses. Its own lines follow, of which there is one without hints where the cube has two
+# literals that contradict each other.
+renumbered() {
+  awk -v number="$number" -v clauses="${size#* }" -v cube="$cube" -v bound="$bound" '
+    BEGIN {
+      split(cube, literals)
+      for (i = 1; i in literals; i++) {
+        negated = literals[i] ~ /^-/ ? substr(literals[i], 2) : "-" literals[i]
+        in_cube[negated]
+        behind = behind " " negated
+      }
+      behind = behind " 0"
+      last = clauses
+    }
+    function unit(literal, told) {
+      if (literal in units) return
+      units[literal]
+      hint[++last] = told
+    }
+    NR == FNR { if (NF == 2) units[$1]; next }
+    FNR == 1 {
+      for (i = 1; i in literals; i++) unit(literals[i], "")
+      if (bound != "") unit(bound, " " (clauses + 1))
+      next
+    }
+    $2 == "d" { next }
+    {
+      if ($1 - last > 9999999 || $NF != "0") exit 1
+      line = number sprintf("%07d", $1 - last)
+      for (i = 2; i < NF && $i != "0"; i++) if (!($i in in_cube)) line = line " " $i
+      line = line behind
+      for (i++; i < NF; i++) {
+        if ($i <= clauses) line = line " " $i
+        else if ($i <= last) line = line hint[$i]
+        else line = line " " number sprintf("%07d", $i - last)
+      }
+      print line " 0"
+    }' "$folder/clauses" "$at.values"
 }
 
 is_whole() {
@@ -79,6 +125,7 @@ is_whole() {
 
 read -r kind program <"$folder/solver"
 read -r share <"$folder/share"
+read -r size <"$folder/size"
 bound=$(current)
 clauses "$@" $bound >"$at.cnf" || fail "the clauses can't be written"
 case $kind in
@@ -99,6 +146,7 @@ case $(sed -n '/^s /{p;q;}' "$at.values") in
     end refuted
     ;;
   's SATISFIABLE') grep '^[sv]' "$at.values" && end found ;;
+  's UNKNOWN') end stopped ;;
 esac
 [ -e "$at.why" ] && end "$(cat "$at.why")"
 fail "the solver ended with code $code"

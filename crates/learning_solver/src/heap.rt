@@ -76,7 +76,8 @@ impl Heap {
     fn livelier_below(&self, activity: &[u64], at: u32) -> u32 {
         let left = at.saturating_mul(2);
         if left < self.count
-            && activity_of(activity, self.var_at(left)) < activity_of(activity, self.var_at(left + 1))
+            && activity_of(activity, self.var_at(left))
+                < activity_of(activity, self.var_at(left + 1))
         {
             return left + 1;
         }

@@ -31,7 +31,7 @@ impl Search<'_> {
         if matches!(self.order.profile(), Profile::Activity) {
             self.bumped
                 .gather(&self.db, self.walker.seen(), self.walker.lits())?;
-            self.order.bump(&self.db, self.bumped.list.as_slice());
+            self.order.bump(&self.db, &mut self.bumped.list);
         }
         Ok(())
     }

@@ -3,7 +3,8 @@
 //! and Froehlich 2015). Beside it each variable has an activity, which newer conflicts bump by more, as in VSIDS
 //! (Moskewicz and others 2001) in the form of MiniSat (Een and Soerensson 2003), but in whole numbers: they decide
 //! in which order the variables of a conflict move, and which of the first free ones is decided. That was faster than
-//! either alone, and than a heap.
+//! either alone, and than a heap, but for large CNFs: there a heap of activities decides, and the ring stays as it is
+//! and finds a free variable where the heap has none.
 
 ghost use Rattle.std.specs.Prelude.{◌≡◌, ◌+◌, ◌^◌, ◌≤◌, ◌<◌, ◌⊎◌, ◌↔◌, ℕ, length};
 ghost use Rattle.std.specs.Prelude.{All, IsTrue, IfOk, IfSome, IsNone, Option, Some, None};
@@ -16,20 +17,23 @@ use crate::heap::Heap;
 use crate::listed::Listed;
 use crate::phases::{Aim, Phases};
 use crate::profile::Profile;
-use crate::tunables::{FIRST_GAIN, GAIN_PARTS, MOST_GAIN, SCALE};
+use crate::tunables::{
+    FIRST_GAIN, GAIN_PARTS, LEAST_HEAP, LOOKED_AT, MOST_GAIN, MOST_PLACES, SCALE,
+};
 use clause_rings::ClauseDb;
 use index_ring::Rings;
 use order_ints::Lit;
 use std::alloc::{AllocError, Global};
 use std::marker::Model;
 
-/// The order of the variables 1 to `vars`, their activities and phases. Some 21 bytes a variable.
+/// The order of the variables 1 to `vars`, their activities and phases. Some 21 bytes a variable, 29 with a heap.
 #[derive(Drop)]
 pub struct Order {
     vars: u32,
     ring: Rings,
     activity: Vec<u64>,
-    heap: Heap,
+    /// The variables by activity, where there are many.
+    heap: Option<Heap>,
     phases: Phases,
     gain: u64,
     /// No variable before this one is free, as far as is known; 0 for the front.
@@ -90,10 +94,60 @@ fn first_free(ring: &Rings, db: &ClauseDb, from: Option<u32>) -> Option<u32>
     None
 }
 
-/// The most active free variable of the heap. Those before it leave the heap.
-fn most_active(heap: &mut Heap, activity: &[u64], db: &ClauseDb) -> Option<u32>
+/// The more active of two variables, the first where they are equally active.
+fn livelier(activity: &[u64], v: u32, w: u32) -> u32
+    requires first { v < length activity.now }
+    requires second { w < length activity.now }
+    ensures { (result ≡ v) ⊎ (result ≡ w) }
+{
+    if activity[w as usize] > activity[v as usize] {
+        w
+    } else {
+        v
+    }
+}
+
+/// The most active of the first free variables of the ring, from one of them on.
+fn most_active(ring: &Rings, activity: &[u64], db: &ClauseDb, first: u32) -> u32
+    requires ring { IsRing db.now.trail.vars ring.now }
+    requires activity { length activity.now ≡ db.now.trail.vars + 1 }
+    requires first { IsFreeIn db.now.trail first }
+    ensures { IsFreeIn db.now.trail result }
+{
+    let mut best = first;
+    let mut met = 1u32;
+    let mut at = ring.after(first);
+    'places: for _ in 0..MOST_PLACES {
+        let Some(v) = at else { break };
+        if is_free(db, v) {
+            best = livelier(activity, best, v);
+            met += 1;
+            if met >= LOOKED_AT {
+                return best;
+            }
+        }
+        at = ring.after(v);
+    }
+    best
+}
+
+/// Makes a variable the first of the ring.
+fn move_to_front(ring: &mut Rings, vars: u32, v: u32)
+    requires ring { IsRing vars ring.old }
+    requires low { 1 ≤ v }
+    requires high { v ≤ vars }
+    ensures { IsRing vars ring.new }
+{
+    let _vars = vars;
+    ring.unlink(v);
+    ring.push_front(0, v);
+}
+
+/// The most active free variable of the heap, where there is one. Those before it leave the heap.
+fn top_of(heap: Option<&mut Heap>, activity: &[u64], db: &ClauseDb) -> Option<u32>
     ensures { IfSome result (IsFreeIn db.now.trail) }
 {
+    let heap = heap?;
     for _ in 0..db.vars() {
         let v = heap.pop(activity)?;
         if v > 0 && v <= db.vars() && db.value(v).is_none() {
@@ -101,6 +155,14 @@ fn most_active(heap: &mut Heap, activity: &[u64], db: &ClauseDb) -> Option<u32>
         }
     }
     None
+}
+
+/// A heap of the variables, where they are many.
+fn heap_of(alloc: Global, vars: u32) -> Result<Option<Heap>, AllocError> {
+    if vars < LEAST_HEAP {
+        return Ok(None);
+    }
+    Ok(Some(Heap::with(alloc, vars)?))
 }
 
 impl Order {
@@ -112,7 +174,7 @@ impl Order {
         let places = vars as usize + 1;
         let mut ring = Rings::with(alloc, 1, vars + 1)?;
         let activity = vec![in alloc; 0; places]?;
-        let heap = Heap::with(alloc, vars)?;
+        let heap = heap_of(alloc, vars)?;
         let phases = Phases::with(alloc, vars)?;
         push_all(&mut ring, vars);
         Ok(Order {
@@ -177,12 +239,16 @@ impl Order {
             return Some(l);
         }
         if matches!(self.profile, Profile::Activity)
-            && let Some(var) = most_active(&mut self.heap, self.activity.as_slice(), db)
+            && let Some(var) = top_of(self.heap.as_mut(), self.activity.as_slice(), db)
         {
             return Some(Lit::of(var, self.phases.of(var)));
         }
-        let var = self.first(db)?;
-        self.start = var;
+        let first = self.first(db)?;
+        self.start = first;
+        let var = match self.profile {
+            Profile::Activity => most_active(&self.ring, self.activity.as_slice(), db, first),
+            Profile::InOrder => first,
+        };
         Some(Lit::of(var, self.phases.of(var)))
     }
 
@@ -221,40 +287,55 @@ impl Order {
         ensures { self.new ≡ self.old }
     {
         self.phases.save(l);
-        self.heap.put(self.activity.as_slice(), l.var);
+        if let Some(heap) = self.heap.as_mut() {
+            heap.put(self.activity.as_slice(), l.var);
+        }
     }
 
-    /// Bumps the variables of a conflict, and puts them in front, the most active one first. It sorts them.
-    pub fn bump(&mut self, db: &ClauseDb, bumped: &[u32])
+    /// Bumps the variables of a conflict. Without a heap it sorts them and puts them in front, the most active one first.
+    pub fn bump(&mut self, db: &ClauseDb, bumped: &mut Vec<u32>)
         ensures { self.new ≡ self.old }
     {
         self.phases.note_conflict(db);
         self.listed.note_conflict(db);
+        if self.heap.is_none() {
+            let activity = self.activity.as_slice();
+            bumped.sort_unstable_by_key(|v| activity.get(*v as usize).copied());
+        }
         for v in bumped.iter() {
-            self.raise(*v);
+            if *v > 0 && *v <= self.vars {
+                self.raise(*v);
+            }
         }
         self.gain = self.gain.saturating_add(self.gain / GAIN_PARTS);
         if self.gain > MOST_GAIN {
             self.scale_down();
         }
+        self.start = 0;
     }
 
-    /// Makes a variable more active.
+    /// Bumps a variable, and puts it in front where there is no heap.
     fn raise(&mut self, v: u32)
+        requires low { 1 ≤ v }
+        requires high { v ≤ self.old }
         ensures { self.new ≡ self.old }
     {
-        if let Some(activity) = self.activity.get_mut(v as usize) {
-            *activity = activity.saturating_add(self.gain);
+        let place = v as usize;
+        self.activity[place] = self.activity[place].saturating_add(self.gain);
+        match self.heap.as_mut() {
+            Some(heap) => heap.bump(self.activity.as_slice(), v),
+            None => move_to_front(&mut self.ring, self.vars, v),
         }
-        self.heap.bump(self.activity.as_slice(), v);
     }
 
-    /// Puts all variables back, for another search.
+    /// Puts all variables back into the heap, for another search.
     pub fn refill(&mut self)
         ensures { self.new ≡ self.old }
     {
-        for v in 1..self.vars + 1 {
-            self.heap.put(self.activity.as_slice(), v);
+        if let Some(heap) = self.heap.as_mut() {
+            for v in 1..self.vars + 1 {
+                heap.put(self.activity.as_slice(), v);
+            }
         }
     }
 

@@ -33,6 +33,9 @@ pub const LOOKED_AT: u32 = 8;
 /// And at how many places of the ring at most.
 pub const MOST_PLACES: u32 = 256;
 
+/// From how many variables on a heap decides.
+pub const LEAST_HEAP: u32 = 50_000;
+
 /// Where a solution is looked for, how many conflicts pass before phases change, and by how many more each time.
 pub const PHASE_CHANGE: u64 = 1_000;
 

@@ -1,4 +1,4 @@
-"""Draws rows of results as an SVG: lines over two axes, each by powers of ten."""
+"""Draws rows of results as an SVG: lines over two axes, by powers of ten or evenly."""
 import math
 
 # The plots beside docs/MEASURED.md: of which table, which columns are drawn, and how they are called.
@@ -9,7 +9,15 @@ PLOTS = {
         "least": 2,
         "titles": ("size of the model", "CPU seconds"),
     },
+    "cactus": {
+        "name": "cactus",
+        "columns": ("files", "seconds"),
+        "least": 2,
+        "titles": ("files that are solved", "CPU seconds for each"),
+        "even": True,
+    },
 }
+STEP = 10
 WIDE, HIGH, LEFT, LOW, SIDE = 560, 360, 60, 44, 330
 COLOURS = ("#1b6ca8", "#c0392b", "#2e8b57", "#8e44ad", "#d68910", "#16a085", "#7f8c8d", "#2c3e50")
 
@@ -41,30 +49,34 @@ def lines_of(rows, columns, least):
     return {name: points for name, points in out.items() if len(points) >= least}
 
 
-def drawn(table_of, name, columns, least, titles):
-    """The text of the plot."""
+def drawn(table_of, name, columns, least, titles, even=False):
+    """The text of the plot; where it is even, its first axis goes by steps of ten and not by powers."""
     lines = lines_of(table_of(name), columns, least)
+    powers = math.log10, lambda it: 10.0**it, mark
+    steps = lambda it: it / STEP, lambda it: it * STEP, lambda it: str(it * STEP)
+    ways = (steps if even else powers, powers)
     spans = []
-    for axis in (0, 1):
-        values = [math.log10(point[axis]) for points in lines.values() for point in points]
+    for axis, (scaled, _, _) in enumerate(ways):
+        values = [scaled(point[axis]) for points in lines.values() for point in points]
         spans.append((math.floor(min(values)), math.ceil(max(values))))
 
     def place(point):
-        parts = [(math.log10(it) - low) / (high - low) for it, (low, high) in zip(point, spans)]
+        parts = [(way[0](it) - low) / (high - low) for it, (low, high), way in zip(point, spans, ways)]
         return LEFT + parts[0] * (WIDE - LEFT - 10), HIGH - LOW - parts[1] * (HIGH - LOW - 10)
 
     size = f'viewBox="0 0 {WIDE + SIDE} {HIGH}" font-family="sans-serif" font-size="11"'
     out = [f'<svg xmlns="http://www.w3.org/2000/svg" {size}>']
     out += [f'<rect width="{WIDE + SIDE}" height="{HIGH}" fill="#ffffff"/>']
     for axis, (low, high) in enumerate(spans):
+        _, full, told = ways[axis]
         for power in range(low, high + 1):
-            ends = [[10.0 ** it for it, _ in spans], [10.0 ** it for _, it in spans]]
+            ends = [[way[1](it[at]) for it, way in zip(spans, ways)] for at in (0, 1)]
             for end in ends:
-                end[axis] = 10.0**power
+                end[axis] = full(power)
             (x1, y1), (x2, y2) = map(place, ends)
             out.append(f'<line x1="{x1:.1f}" y1="{y1:.1f}" x2="{x2:.1f}" y2="{y2:.1f}" stroke="#dddddd"/>')
             at = (x1, HIGH - LOW + 16, "middle") if axis == 0 else (LEFT - 6, y1 + 4, "end")
-            out.append(f'<text x="{at[0]:.1f}" y="{at[1]:.1f}" text-anchor="{at[2]}">{mark(power)}</text>')
+            out.append(f'<text x="{at[0]:.1f}" y="{at[1]:.1f}" text-anchor="{at[2]}">{told(power)}</text>')
     out.append(f'<text x="{(LEFT + WIDE) / 2}" y="{HIGH - 8}" text-anchor="middle">{titles[0]}</text>')
     out.append(f'<text transform="translate(14,{HIGH / 2}) rotate(-90)" text-anchor="middle">{titles[1]}</text>')
     for at, (name, points) in enumerate(lines.items()):

@@ -10,7 +10,7 @@ import os
 import re
 import sys
 
-from plot import PLOTS, drawn
+from plot import PAIRS, PLOTS, drawn, paired
 
 TOP = os.path.dirname(os.path.dirname(os.path.realpath(__file__)))
 PAGE = f"{TOP}/docs/MEASURED.md"
@@ -67,6 +67,8 @@ def main():
     made = {PAGE: page(old)}
     for name, how in PLOTS.items():
         made[f"{TOP}/docs/{name}.svg"] = drawn(lambda it: table_of(it)[1], **how)
+    for name, how in PAIRS.items():
+        made[f"{TOP}/docs/{name}.svg"] = paired(lambda it: table_of(it)[1], **how)
     stale = []
     for path, text in made.items():
         if not os.path.exists(path) or open(path, encoding="utf-8").read() != text:

@@ -70,6 +70,19 @@ def lines_of(rows, columns, least):
     return {name: points for name, points in out.items() if len(points) >= least}
 
 
+def curve(name, dots, at):
+    """A line through its points, and its name in the legend, of which it is the line with this number."""
+    colour = COLOURS[at % len(COLOURS)]
+    path = " ".join(f"{x:.1f},{y:.1f}" for x, y in dots)
+    out = [f'<polyline points="{path}" fill="none" stroke="{colour}" stroke-width="1.5"/>']
+    out += [f'<circle cx="{x:.1f}" cy="{y:.1f}" r="2.5" fill="{colour}"/>' for x, y in dots]
+    y = 20 + 16 * at
+    ends = f'x1="{WIDE + 6}" y1="{y - 4}" x2="{WIDE + 22}" y2="{y - 4}"'
+    out.append(f'<line {ends} stroke="{colour}" stroke-width="3"/>')
+    out.append(f'<text x="{WIDE + 27}" y="{y}">{escaped(name)}</text>')
+    return out
+
+
 def drawn(table_of, name, columns, least, titles, even=False):
     """The text of the plot; where it is even, its first axis goes by steps of ten and not by powers."""
     lines = lines_of(table_of(name), columns, least)
@@ -102,15 +115,7 @@ def drawn(table_of, name, columns, least, titles, even=False):
     out.append(f'<text x="{(LEFT + WIDE) / 2}" y="{HIGH - 8}" text-anchor="middle">{titles[0]}</text>')
     out.append(f'<text transform="translate(14,{HIGH / 2}) rotate(-90)" text-anchor="middle">{titles[1]}</text>')
     for at, (name, points) in enumerate(lines.items()):
-        colour = COLOURS[at % len(COLOURS)]
-        dots = [place(point) for point in points]
-        path = " ".join(f"{x:.1f},{y:.1f}" for x, y in dots)
-        out.append(f'<polyline points="{path}" fill="none" stroke="{colour}" stroke-width="1.5"/>')
-        out += [f'<circle cx="{x:.1f}" cy="{y:.1f}" r="2.5" fill="{colour}"/>' for x, y in dots]
-        y = 20 + 16 * at
-        ends = f'x1="{WIDE + 6}" y1="{y - 4}" x2="{WIDE + 22}" y2="{y - 4}"'
-        out.append(f'<line {ends} stroke="{colour}" stroke-width="3"/>')
-        out.append(f'<text x="{WIDE + 27}" y="{y}">{escaped(name)}</text>')
+        out += curve(name, [place(point) for point in points], at)
     return "\n".join([*out, "</svg>"]) + "\n"
 
 

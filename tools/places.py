@@ -18,7 +18,7 @@ KINDS = {
     "rule": r"\b(conj_equations|by_conj)\b",
     "mode": r"\b(Decode|DecodeMode|decode_mode)\b|\"decode\"|`bee decode|^\| `decode`|^\$ decode",
     "schedule": r"\b(stretch_length|stretches_total)\b",
-    "option": r"no-restart|\bno_restart\b|\bis_fixed\b",
+    "option": r"no-restart|\bno_restart\b|\bSearchOptions \{",
 }
 # Where these stand, in the order in which they are told: each with what is looked for in a path.
 PARTS = (
@@ -27,6 +27,7 @@ PARTS = (
     ("proofs", r"^crates/\w+/proofs/"),
     ("rows", r"^crates/(\w+_rows|core_words)/"),
     ("crates.txt", r"^crates\.txt$"),
+    ("program", r"^bee$"),
     ("pages", r"^docs/(CORES|FORMATS|LANGUAGE|PROVED)\.md$"),
     ("python", r"^python/beemodel/"),
     ("reference", r"^reference/\w+\.py$"),
@@ -36,7 +37,7 @@ PARTS = (
 
 def named(kind):
     """The paths of the files that name one of the kind, by part."""
-    where = ["crates", "crates.txt", "docs", "README.md", "python", "reference", "bench"]
+    where = ["crates", "crates.txt", "docs", "README.md", "python", "reference", "bench", "bee"]
     words = ["git", "grep", "-lP", KINDS[kind], "--", *where]
     paths = subprocess.run(words, cwd=TOP, capture_output=True, text=True, check=True).stdout.split()
     parts = {part: [it for it in paths if re.match(rule, it)] for part, rule in PARTS}

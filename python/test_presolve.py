@@ -179,7 +179,7 @@ MUTANTS = {
     "the slack of a sum rounded": lambda: mock.patch.object(
         propagators.AtMostZero,
         "narrow",
-        lambda self, of: NARROW(propagators.AtMostZero(self.terms, self.constant + 1), of),
+        lambda self, of, more=0: NARROW(self, of, more + 1),
     ),
     "a price one too great": lambda: stronger(propagators.Prices, "least", lambda it, *them: it + 1),
     "a full interval that isn't": lambda: stronger(

@@ -2,7 +2,6 @@
 from __future__ import annotations
 
 from collections.abc import Iterable
-from difflib import get_close_matches
 from typing import Optional
 
 # By the name without its case, underscores, and a leading `add` or `new`.
@@ -89,6 +88,8 @@ def hint(name: str, names: Iterable[str]) -> Optional[str]:
         return own[text]
     if text in ELSEWHERE:
         return ELSEWHERE[text]
+    from difflib import get_close_matches
+
     close = get_close_matches(text, own, 1, 0.75)
     return own[close[0]] if close else None
 

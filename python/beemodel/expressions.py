@@ -6,7 +6,7 @@ values, and is written out in statements once it stands in a model (`translation
 from __future__ import annotations
 
 from collections.abc import Iterable, Iterator, Sequence
-from typing import TYPE_CHECKING, Union
+from typing import TYPE_CHECKING, Optional, Union
 
 from .lines import refused
 
@@ -180,6 +180,7 @@ class Sum(Number):
     def __init__(self, parts: tuple[tuple[int, Number], ...], constant: int = 0):
         self.parts = parts
         self.constant = constant
+        self.flat: Optional[tuple[dict[Number, int], int]] = None
 
     def __str__(self) -> str:
         coefficients, constant = flatten(self)
@@ -201,8 +202,17 @@ class Sum(Number):
 
 
 def flatten(number: Number) -> tuple[dict[Number, int], int]:
-    """The coefficients of what a sum is made of, in its order, and its constant. Linear in the
-    parts."""
+    """The coefficients of what a sum is made of, in its order, and its constant, which are made once
+    and left as they are. Linear in the parts."""
+    if not isinstance(number, Sum):
+        return flattened(number) if isinstance(number, Not) else ({number: 1}, 0)
+    if number.flat is None:
+        number.flat = flattened(number)
+    return number.flat
+
+
+def flattened(number: Number) -> tuple[dict[Number, int], int]:
+    """The coefficients of what an expression is made of, and its constant."""
     coefficients: dict[Number, int] = {}
     constant = 0
     stack = [(1, number)]
@@ -210,13 +220,15 @@ def flatten(number: Number) -> tuple[dict[Number, int], int]:
         factor, part = stack.pop()
         if isinstance(part, Sum):
             constant += factor * part.constant
-            stack.extend((factor * each, inner) for each, inner in reversed(part.parts))
+            stack += [(factor * each, inner) for each, inner in part.parts[::-1]]
         elif isinstance(part, Not):
             constant += factor
             stack.append((-factor, part.part))
         else:
             coefficients[part] = coefficients.get(part, 0) + factor
-    return {atom: factor for atom, factor in coefficients.items() if factor}, constant
+    if 0 in coefficients.values():
+        return {atom: factor for atom, factor in coefficients.items() if factor}, constant
+    return coefficients, constant
 
 
 def total(numbers: Iterable[NumberLike]) -> Sum:

@@ -1,4 +1,4 @@
-"""A bound of what is sought that is guessed: from a greedy plan, by the script, or by doubling.
+"""A bound of what is sought that is guessed: from a plan, by the script, or by doubling.
 
 The constraint "at most the guess" is written with the others. Whatever it rules out is worse than
 any solution that it leaves, so the best one of these is the best of all. Where it leaves none, the
@@ -15,6 +15,7 @@ from .expressions import Comparison, Number
 from .greedy import Greedy
 from .lines import ModelError
 from .presolve import Left, Presolve, left_of, told_of
+from .shops import plan_of_shop
 
 if TYPE_CHECKING:
     from .model import Constraint, Goal, Model, Placed, Written
@@ -58,8 +59,12 @@ class Guessing:
         return self.told.ends(self.sought)[0] if self.told else 0
 
     def planned(self) -> Optional[int]:
-        """What a greedy plan comes to that meets each constraint, where one is found; a few times a
-        better one is sought, below a quarter of what it may be better by."""
+        """What a plan comes to that meets each constraint, where one is found: that of a shop, or a
+        greedy one, and then a few times a better one is sought, below a quarter of what it may be
+        better by."""
+        best = self.plan_of_shop()
+        if best is not None:
+            return best
         best = self.plan_below(None)
         for _ in range(BETTER):
             if best is None or best <= self.least():
@@ -69,6 +74,34 @@ class Guessing:
                 break
             best = better
         return best
+
+    def plan_of_shop(self) -> Optional[int]:
+        """What a plan of the tasks that are done one at a time comes to, where one is found."""
+        if self.told is None:
+            return None
+        truths, variables = (it.truth for it in self.model.constraints), [*self.model.variables.values()]
+        starts = plan_of_shop(truths, self.sought, self.told.bounds.low, self.least())
+        if starts is None:
+            return None
+        if len(starts) == len(variables):
+            return self.taken({it.name: time for it, time in starts.items()})
+        bounds = self.told.bounds
+        mark, bounds.limit = len(bounds.trail), bounds.work + LIMIT
+        try:
+            for it, time in starts.items():
+                bounds.fix(it, time)
+            return self.taken(Greedy(self.told, self.sought, variables).plan())
+        except Conflict:
+            return None
+        finally:
+            bounds.undo(mark)
+
+    def taken(self, plan: Optional[Values]) -> Optional[int]:
+        """What a plan comes to, where it meets each constraint; it is kept then."""
+        if plan is None or not self.model.is_solution(plan):
+            return None
+        self.plan = plan
+        return self.sought.value(plan)
 
     def plan_below(self, most: Optional[int]) -> Optional[int]:
         """What a greedy plan comes to that is no worse than a bound, where one is found."""
@@ -87,10 +120,7 @@ class Guessing:
             bounds.undo(mark)
             if within is not None:
                 bounds.drop(within, *within.watched())
-        if plan is None or not all(it.truth.holds(plan) for it in self.model.constraints):
-            return None
-        self.plan = plan
-        return self.sought.value(plan)
+        return self.taken(plan)
 
     def asked(self, guess: Optional[int]) -> Asked:
         """The model in statements, with a guess where there is one."""

@@ -6,7 +6,7 @@ from typing import TYPE_CHECKING, NamedTuple, Optional
 from .bounds import Bounds
 from .expressions import Number, NumberLike, Truth, TruthLike, flatten, number_of, truth_of
 from .lines import refused
-from .propagators import AtMostZero, Literal, is_true
+from .propagators import Literal, is_true
 
 if TYPE_CHECKING:
     from .presolve import Presolve
@@ -91,13 +91,11 @@ class Watched:
         if self.atom is not None:
             bounds.at_least(self.atom, time - self.shift)
             return
-        above = self.start[1]
-        AtMostZero(above.terms, above.constant + time).narrow(bounds)
+        self.start[1].narrow(bounds, time)
 
     def end_by(self, bounds: Bounds, time: int) -> None:
         """The task has ended at a time."""
         if self.atom is not None:
             bounds.at_most(self.atom, time - self.duration.constant - self.shift)
             return
-        below = self.end[0]
-        AtMostZero(below.terms, below.constant - time).narrow(bounds)
+        self.end[0].narrow(bounds, -time)

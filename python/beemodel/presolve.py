@@ -178,7 +178,7 @@ class Presolve:
         self.bounds.run()
         mark = len(self.bounds.trail)
         try:
-            AtMostZero(below.terms, below.constant - most).narrow(self.bounds)
+            below.narrow(self.bounds, -most)
             self.bounds.run()
         except Conflict:
             return False

@@ -60,11 +60,15 @@ class Prices:
     def __init__(self, atom: Number, rising: list[tuple[int, int]]):
         self.atom, self.rising = atom, rising
         self.price = {value: price for price, value in rising}
+        self.is_cost = not rising or rising[0][0] >= 0
+        self.span = max(0, rising[-1][0]) - min(0, rising[0][0]) if rising else 0
 
     def least(self, bounds: Bounds) -> int:
-        low, high = bounds.low[self.atom], bounds.high[self.atom]
+        low, high, known = bounds.low[self.atom], bounds.high[self.atom], self.price
         if low == high:
-            return self.price.get(low, 0)
+            return known.get(low, 0)
+        if self.is_cost and (low not in known or high not in known):
+            return 0
         holes, is_free = bounds.holes.get(self.atom, ()), None
         for price, value in self.rising:
             if price >= 0 and is_free is None:
@@ -77,8 +81,7 @@ class Prices:
 
     def is_free(self, bounds: Bounds) -> bool:
         """Whether a value may be taken that has no price."""
-        ends = bounds.low[self.atom], bounds.high[self.atom]
-        if any(it not in self.price for it in ends):
+        if bounds.low[self.atom] not in self.price or bounds.high[self.atom] not in self.price:
             return True
         return any(it not in self.price for it in bounds.values(self.atom))
 
@@ -131,6 +134,9 @@ class AtMostZero:
 
     def __init__(self, terms: Sequence[Term | Prices | Choice], constant: int):
         self.terms, self.constant = terms, constant
+        are_prices = all(isinstance(it, Prices) for it in terms)
+        spans = [it.span for it in terms if isinstance(it, Prices)]
+        self.widest = max(spans, default=0) if are_prices else None
 
     def variable(self) -> Optional[Number]:
         """The number to which the constant is added, where the sum is no other."""
@@ -141,14 +147,15 @@ class AtMostZero:
         """The least that the sum can be."""
         return self.constant + sum(it.least(bounds) for it in self.terms)
 
-    def narrow(self, bounds: Bounds) -> None:
-        """No term is greater than what the least of the others leaves to it."""
+    def narrow(self, bounds: Bounds, more: int = 0) -> None:
+        """No term is greater than what the least of the others, and so much more, leaves to it."""
         each = [it.least(bounds) for it in self.terms]
-        slack = -self.constant - sum(each)
+        slack = -self.constant - more - sum(each)
         if slack < 0:
             raise Conflict
-        for term, least in zip(self.terms, each):
-            term.keep_below(bounds, least + slack)
+        if self.widest is None or slack < self.widest:
+            for term, least in zip(self.terms, each):
+                term.keep_below(bounds, least + slack)
 
 
 class Relation(Propagator):
@@ -194,7 +201,7 @@ class Relation(Propagator):
         if relation == "leq":
             self.below.narrow(bounds)
         elif relation == "gt":
-            AtMostZero(self.above.terms, self.above.constant + 1).narrow(bounds)
+            self.above.narrow(bounds, 1)
         elif relation == "eq":
             self.below.narrow(bounds)
             self.above.narrow(bounds)
@@ -263,7 +270,7 @@ class Greatest(Propagator):
             raise Conflict
         if len(can_be) == 1:
             member = can_be[0]
-            AtMostZero(member.terms, member.constant + least).narrow(bounds)
+            member.narrow(bounds, least)
 
 
 class Entry(Propagator):
@@ -271,12 +278,11 @@ class Entry(Propagator):
 
     def __init__(self, made: Number, place: AtMostZero, members: dict[int, tuple[AtMostZero, AtMostZero]]):
         self.made, self.place, self.members = made, place, members
+        self.above = AtMostZero([it.negated() for it in place.terms], -place.constant)
         self.size = 2 * len(members)
 
     def run(self, bounds: Bounds) -> None:
-        low, high = self.place.least(bounds), -AtMostZero(
-            [it.negated() for it in self.place.terms], -self.place.constant
-        ).least(bounds)
+        low, high = self.place.least(bounds), -self.above.least(bounds)
         ends = [
             (below.least(bounds), -above.least(bounds))
             for place, (below, above) in self.members.items()
@@ -320,8 +326,8 @@ class Multiple(Propagator):
     def divide(self, bounds: Bounds, side: tuple[AtMostZero, AtMostZero], low: int, high: int) -> None:
         """A factor beside one from low to high, neither of which is negative."""
         below, above = side
-        AtMostZero(below.terms, below.constant - bounds.high[self.made] // low).narrow(bounds)
-        AtMostZero(above.terms, above.constant + -(-bounds.low[self.made] // high)).narrow(bounds)
+        below.narrow(bounds, -(bounds.high[self.made] // low))
+        above.narrow(bounds, -(-bounds.low[self.made] // high))
 
 
 class Differ(Propagator):
@@ -338,12 +344,12 @@ class Differ(Propagator):
         for at, least in enumerate(self.narrowed(low, high)):
             if least > low[at]:
                 above = self.members[at][1]
-                AtMostZero(above.terms, above.constant + least).narrow(bounds)
+                above.narrow(bounds, least)
         turned = self.narrowed([-it for it in high], [-it for it in low])
         for at, least in enumerate(turned):
             if -least < high[at]:
                 below = self.members[at][0]
-                AtMostZero(below.terms, below.constant + least).narrow(bounds)
+                below.narrow(bounds, least)
 
     def rule_out_fixed(self, bounds: Bounds, low: list[int], high: list[int]) -> None:
         """What one member is no other one is."""

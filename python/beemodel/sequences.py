@@ -106,11 +106,12 @@ class Precede(Propagator):
     def run(self, bounds: Bounds) -> None:
         most = -1
         for atom in self.atoms:
-            for at, value in enumerate(self.values):
-                if at > most + 1 and bounds.may_be(atom, value):
-                    bounds.remove(atom, value)
-            left = (at for at, value in enumerate(self.values) if bounds.may_be(atom, value))
-            most = max(most, *left, -1)
+            low, high, holes = bounds.low[atom], bounds.high[atom], bounds.holes.get(atom, ())
+            left = [at for at, it in enumerate(self.values) if low <= it <= high and it not in holes]
+            for at in left:
+                if at > most + 1:
+                    bounds.remove(atom, self.values[at])
+            most = max(most, *(at for at in left if at <= most + 1), -1)
 
 
 class ValuePrecede(Truth):

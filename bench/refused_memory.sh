@@ -141,7 +141,7 @@ least = path("least.bee", "new_int(x,0,2)\nint_neq(x,0)\nsolve minimize x\n")
 least_found = path("least.values", "s SATISFIABLE\nv 1 -2 0\n")
 clauses_text = path("pairs.cnf", "p cnf 2 4\n1 2 0\n1 -2 0\n-1 2 0\n-1 -2 0\n")
 # Modes that read two texts.
-SECONDS = ("check", "decode", "checkall", "checkcore", "certify", "drup")
+SECONDS = ("check", "decode", "checkall", "checkcore", "certify", "resume", "drup")
 RUNS = [
     ("times", ["solve", times]),
     ("pigeons", ["solve", holes, "--no-restart", "--budget", "4096"]),
@@ -150,6 +150,7 @@ RUNS = [
     ("half", ["solve", half]),
     ("lists", ["compile", lists]),
     ("lists", ["check", lists, best]),
+    ("lists", ["resume", lists, best]),
     ("two", ["solve", two]),
     ("sum", ["decode", sum_text, found]),
     ("days", ["all", days]),

@@ -155,7 +155,7 @@ class Stopped(unittest.TestCase):
 
     def test_no_solution_yet(self):
         model, _ = ruler(11)
-        answer = model.solve(seconds=0.0, program=PROGRAM)
+        answer = model.solve(seconds=0.0, program=PROGRAM, presolve=False)
         self.assertEqual((answer.verdict, answer.values, answer.is_checked), ("UNKNOWN", None, False))
         self.assertRegex(repr(answer), r"^<Answer UNKNOWN, no solution known, bound \d+>$")
 

@@ -5,6 +5,7 @@
   all_models.py      all, checkall
   core_models.py     core, checkcore
   certify_models.py  certify, bound, over what cadical found
+  resume_models.py   resume
   opb_models.py      opb, opbmodel, weigh
   clause_models.py   sat, drup, queens
 each over so many, whose heads say what is compared, and shows what they tell. The last line has all models, runs and
@@ -13,7 +14,10 @@ import os, re, subprocess, sys
 
 from trials import TOP, program
 
-SCRIPTS = ("fuzz.sh", "all_models.py", "core_models.py", "certify_models.py", "opb_models.py", "clause_models.py")
+SCRIPTS = (
+    "fuzz.sh", "all_models.py", "core_models.py", "certify_models.py", "resume_models.py", "opb_models.py",
+    "clause_models.py",
+)
 
 
 def counted(script, words):

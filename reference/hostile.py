@@ -10,6 +10,7 @@ refused, is compared with the reading of this folder. The kinds:
   values   `bee decode` beside `answer_reading.py`
   drup     `bee drup` beside `drup_reading.py`
   found    `bee certify` beside `found_reading.py`
+  wish     `bee resume` beside `wish_reading.py`, and its answer beside `answer_reading.py`
   opb      `bee opbmodel` beside `opb_reading.py`: the text of the model, or the line and the kind of the fault
 BEE names another program that is tried. Wants python3, and cadical for `values`, `drup` and `found`."""
 import multiprocessing, random, subprocess, sys, tempfile
@@ -24,6 +25,7 @@ from list_reading import ListText
 from model_reading import model_of
 from opb_reading import count_of, fault, model, read
 from trials import program
+from wish_reading import wished
 
 PIGEONS = "".join(f"new_int(p{i},1,3)\n" for i in range(4)) + "int_array_allDiff([p0,p1,p2,p3])\nsolve satisfy\n"
 TASKS = "new_int(first,1,3)\nnew_int(second,1,3)\nint_lt(first,second)\nsolve minimize second\n"
@@ -70,6 +72,9 @@ class Bases:
                 yield text, path, told
 
     def answer(self):
+        return self.written("solve")
+
+    def wish(self):
         return self.written("solve")
 
     def list(self):
@@ -162,6 +167,9 @@ class Kept:
     def found(self, text):
         return "ACCEPTED " + found(self.model, self.compiled, text)
 
+    def wish(self, text):
+        wished(self.model, text)
+
     def opb(self, text):
         told = fault(text)
         if told is not None:
@@ -175,6 +183,8 @@ class Kept:
             return ran.stdout.decode() if ran.returncode == 0 else f"REFUSED: {ran.stderr.decode().strip()}"
         if ran.returncode == 0 and self.kind == "found":
             return self.answer(ran.stdout)
+        if ran.returncode == 0 and self.kind == "wish":
+            return self.answer(ran.stdout).split(" ")[0]
         if ran.returncode == 0 and self.kind == "values":
             return "ACCEPTED"
         return ran.stdout.decode().split("\n")[0]
@@ -187,6 +197,7 @@ MODES = {
     "values": "decode",
     "drup": "drup",
     "found": "certify",
+    "wish": "resume",
     "opb": "opbmodel",
 }
 

@@ -4,7 +4,7 @@ use Rattle.std.specs.Prelude.{Option, option_map}
 use Rattle.command_words.specs.declared.command.Command.{Command}
 use Rattle.command_words.specs.declared.command.Options.{Options as Words}
 use Rattle.command_words.specs.Request.{Request, Compile, Weigh, Solve, Check, Decode, Queens, Sat, Drup, OpbModel, Opb, request_of}
-use Rattle.command_words.specs.Request.{All, CheckAll, Core, CheckCore, Bound, Certify}
+use Rattle.command_words.specs.Request.{All, CheckAll, Core, CheckCore, Bound, Certify, Resume}
 use Rattle.command_words.specs.Line.{request}
 use Rattle.command_words.specs.Limits.{KeepsLimits}
 use Rattle.command_words.proofs.RequestLimits.{requests_keep_limits}
@@ -27,6 +27,7 @@ use Rattle.core_mode.proofs.Ends as explaining
 use Rattle.check_modes.proofs.ConflictEnds as core_checking
 use Rattle.bound_mode.proofs.Ends as bounding
 use Rattle.certify_mode.proofs.Ends as certifying
+use Rattle.resume_mode.proofs.Ends as resuming
 use Rattle.model_texts.specs.declared.fault.ModelFault.{ModelFault}
 use Rattle.bee_cli.specs.Statuses.{model_fault, status_of}
 use Rattle.bee_cli.specs.Obeyed.{Obeys}
@@ -52,6 +53,7 @@ unread (Some (Core input options)) seen same = (end.Memory, refl, explaining.idl
 unread (Some (CheckCore input second)) seen same = (end.Memory, refl, core_checking.idle input second seen same)
 unread (Some (Bound input number)) seen same = (end.Memory, refl, bounding.idle number input seen same)
 unread (Some (Certify input second)) seen same = (end.Memory, refl, certifying.idle input second seen same)
+unread (Some (Resume input second options)) seen same = (end.Memory, refl, resuming.idle options.search input second seen same)
 
 -- queens are placed
 pub queens_obeyed : (words : Words) (size : ℕ) (ending : End ModelFault) (status : Status) (seen : Seen) → QueensMode words.search size ending seen → status ≡ status_of model_fault ending

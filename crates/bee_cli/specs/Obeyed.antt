@@ -1,7 +1,7 @@
 -- What a run promises, by what the words ask for.
 use Rattle.std.specs.Prelude.{◌≡◌, Bool, true, false, Option, Some}
 use Rattle.command_words.specs.Request.{Request, Compile, Weigh, Solve, Check, Decode, Queens, Sat, Drup, OpbModel, Opb}
-use Rattle.command_words.specs.Request.{All, CheckAll, Core, CheckCore, Bound, Certify}
+use Rattle.command_words.specs.Request.{All, CheckAll, Core, CheckCore, Bound, Certify, Resume}
 use Rattle.text_modes.specs.Seen.{Seen, Untouched}
 use Rattle.compile_mode.specs.CompileMode.{CompileMode}
 use Rattle.weigh_mode.specs.WeighMode.{WeighMode}
@@ -19,6 +19,7 @@ use Rattle.core_mode.specs.CoreMode.{CoreMode}
 use Rattle.check_modes.specs.CheckCoreMode.{CheckCoreMode}
 use Rattle.bound_mode.specs.BoundMode.{BoundMode}
 use Rattle.certify_mode.specs.CertifyMode.{CertifyMode}
+use Rattle.resume_mode.specs.ResumeMode.{ResumeMode}
 use Rattle.bee_cli.specs.Statuses.{model_fault, cnf_fault, clauses_fault, certify_fault, bound_fault, Ended}
 use Rattle.bee_cli.specs.declared.status.Status.{Status}
 
@@ -40,6 +41,7 @@ is_built (Some (Core input options)) = true
 is_built (Some (CheckCore input second)) = true
 is_built (Some (Bound input number)) = true
 is_built (Some (Certify input second)) = true
+is_built (Some (Resume input second options)) = true
 is_built request = false
 
 -- a mode that is built has one record of clauses, over the end of the run, of which the status tells
@@ -65,4 +67,6 @@ Obeys (Some (CheckCore input second)) status seen =
     Ended model_fault (λ end. CheckCoreMode input second end seen) status
 Obeys (Some (Bound input number)) status seen = Ended bound_fault (λ end. BoundMode number input end seen) status
 Obeys (Some (Certify input second)) status seen = Ended certify_fault (λ end. CertifyMode input second end seen) status
+Obeys (Some (Resume input second options)) status seen =
+    Ended model_fault (λ end. ResumeMode options.search input second end seen) status
 Obeys request status seen = Untouched seen

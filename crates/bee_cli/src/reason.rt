@@ -7,6 +7,7 @@ use drup_mode::RefusedProof;
 use ledger_check::Why;
 use list_check::RefusedList;
 use proof_check::ProofFault;
+use resume_mode::RefusedWish;
 use std::cell::Cell;
 use std::fmt;
 use std::fmt::Display;
@@ -27,6 +28,8 @@ pub(crate) struct Reasons {
     pub(crate) list: Cell<Option<RefusedList>>,
     /// For a line of a core.
     pub(crate) core: Cell<Option<RefusedConflict>>,
+    /// For a line of values to begin with.
+    pub(crate) wish: Cell<Option<RefusedWish>>,
 }
 
 impl Reasons {
@@ -39,6 +42,7 @@ impl Reasons {
             finding: Cell::new(None),
             list: Cell::new(None),
             core: Cell::new(None),
+            wish: Cell::new(None),
         }
     }
 
@@ -62,6 +66,9 @@ impl Reasons {
         if let Some(fault) = self.core.get() {
             return Some(Reason::Core(fault));
         }
+        if let Some(RefusedWish) = self.wish.get() {
+            return Some(Reason::Wish);
+        }
         None
     }
 }
@@ -81,6 +88,8 @@ pub enum Reason {
     List(RefusedList),
     /// What stands against a line of a core.
     Core(RefusedConflict),
+    /// A line of values to begin with tells none of a declared name, or one that isn't in its domain.
+    Wish,
 }
 
 impl Display for Reason {
@@ -92,6 +101,7 @@ impl Display for Reason {
             Reason::Finding(fault) => say_finding(*fault, f),
             Reason::List(fault) => say_list(*fault, f),
             Reason::Core(fault) => say_core(*fault, f),
+            Reason::Wish => write!(f, "no value that a declared name can have"),
         }
     }
 }

@@ -31,6 +31,7 @@ use decode_mode::decode;
 use drup_mode::drup;
 use opb_mode::{opb, opb_model_text};
 use queens_mode::queens;
+use resume_mode::{Resuming, resume};
 use sat_mode::sat;
 use search_watcher::Silent;
 use solve_mode::solve;
@@ -48,7 +49,8 @@ fn asks_progress(command: &Command<'_>) -> bool
         | Command::Sat { options, .. }
         | Command::Opb { options, .. }
         | Command::All { options, .. }
-        | Command::Core { options, .. } => options.progress,
+        | Command::Core { options, .. }
+        | Command::Resume { options, .. } => options.progress,
         Command::Compile { .. }
         | Command::Weigh { .. }
         | Command::Check { .. }
@@ -118,6 +120,18 @@ fn obey<S: Shelf, O: Sink, W: SolutionWatcher + ListWatcher + ConflictWatcher>(
         Command::Bound { input, number } => bound_status(bound(alloc, input, *number, shelf, out)),
         Command::Certify { input, second } => {
             certify_status(certify(alloc, input, second, shelf, out, &reasons.finding))
+        }
+        Command::Resume {
+            input,
+            second,
+            options,
+        } => {
+            let how = Resuming {
+                options: options.search,
+                watcher,
+                noted: &reasons.wish,
+            };
+            model_status(resume(alloc, input, second, &how, shelf, out))
         }
     }
 }

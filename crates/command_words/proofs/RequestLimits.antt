@@ -7,9 +7,9 @@ use Rattle.clap.specs.Words.{Text}
 use Rattle.command_words.specs.declared.command.Options.{Options}
 use Rattle.command_words.specs.Numeral.{is_numeral, is_within, read_on, number_within, has_minus, signed_number}
 use Rattle.command_words.specs.Request.{Request, Compile, Weigh, Solve, Check, Decode, Queens, Sat, Drup, OpbModel, Opb}
-use Rattle.command_words.specs.Request.{All, CheckAll, Core, CheckCore, Bound, Certify}
+use Rattle.command_words.specs.Request.{All, CheckAll, Core, CheckCore, Bound, Certify, Resume}
 use Rattle.command_words.specs.Request.{is_word, budget_of, size_of, options_with, options_of, lone_input, both_inputs, queens_size}
-use Rattle.command_words.specs.Request.{reading_of, reading_requested, searching_of, searching_requested, queens_requested}
+use Rattle.command_words.specs.Request.{reading_of, reading_requested, searching_of, searching_requested, queens_requested, resuming_requested}
 use Rattle.command_words.specs.Request.{checking_of, checking_requested, bound_of, bound_requested, or_else, still_requested, mode_requested, requested}
 use Rattle.command_words.specs.Line.{is_taken, value_of}
 use Rattle.command_words.specs.Limits.{IsBudget, KeepsLimits, RequestsKeepLimits}
@@ -132,6 +132,10 @@ module _ (value : Text → Option Text) (o : Options) (given : IsBudget o.search
   placing true e = queens (queens_size value) refl e
   placing false e = absurd (let c = e in cc)
 
+  resuming : (t : Bool) → (if t then option_map (λ names. Resume names.0 names.1 o) (both_inputs value) else None) ≡ Some asked → KeepsLimits asked
+  resuming true e = mapped (λ (names : Text × Text). Resume names.0 names.1 o) KeepsLimits (λ names. given) (both_inputs value) asked e
+  resuming false e = absurd (let c = e in cc)
+
   either : (first other : Option Request) → (first ≡ Some asked → KeepsLimits asked) → (other ≡ Some asked → KeepsLimits asked)
       → or_else first other ≡ Some asked → KeepsLimits asked
   either (Some it) other p q e = p e
@@ -160,7 +164,8 @@ module _ (value : Text → Option Text) (o : Options) (given : IsBudget o.search
   mode : (word : Option Text) → mode_requested word value o ≡ Some asked → KeepsLimits asked
   mode word =
       either (searching_requested word value o) _ (given_value (searching_of word o) (searching word) (lone_input value))
-      (either (queens_requested word value o) _ (placing (is_word (codes "queens") word)) (silent word o.progress))
+      (either (queens_requested word value o) _ (placing (is_word (codes "queens") word))
+      (either (resuming_requested word value o) _ (resuming (is_word (codes "resume") word)) (silent word o.progress)))
 
 values : (value : Text → Option Text) (asked : Request) → requested value ≡ Some asked → KeepsLimits asked
 values value asked e = by (options_of value) refl e

@@ -3,7 +3,7 @@ use Rattle.std.specs.Prelude.{◌≡◌, ℕ, ◌≤◌, ◌<◌, ◌^◌, List,
 use Rattle.std.specs.Int.{w64}
 use Rattle.clap.specs.Words.{Text}
 use Rattle.command_words.specs.Request.{Request, Compile, Weigh, Solve, Check, Decode, Queens, Sat, Drup, OpbModel, Opb}
-use Rattle.command_words.specs.Request.{All, CheckAll, Core, CheckCore, Bound, Certify}
+use Rattle.command_words.specs.Request.{All, CheckAll, Core, CheckCore, Bound, Certify, Resume}
 use Rattle.command_words.specs.Line.{request}
 
 -- a budget is from 1 and below 2 ^ 63
@@ -28,6 +28,7 @@ KeepsLimits (Core input options) = IsBudget options.search.budget
 KeepsLimits (CheckCore input second) = Unit {0}
 KeepsLimits (Bound input number) = FitsSigned w64 number
 KeepsLimits (Certify input second) = Unit {0}
+KeepsLimits (Resume input second options) = IsBudget options.search.budget
 
 -- the words ask for no other command
 abbrev pub RequestsKeepLimits : Type 0

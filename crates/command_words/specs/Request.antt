@@ -26,6 +26,7 @@ pub data Request : Type 0 where
   CheckCore : (input second : Text) → Request
   Bound : (input : Text) (number : ℤ) → Request
   Certify : (input second : Text) → Request
+  Resume : (input second : Text) (options : Options) → Request
 
 abbrev pub request_of : Command → Request
 request_of (command.Compile input) = Compile input.now
@@ -44,6 +45,7 @@ request_of (command.Core input options) = Core input.now options
 request_of (command.CheckCore input second) = CheckCore input.now second.now
 request_of (command.Bound input number) = Bound input.now number
 request_of (command.Certify input second) = Certify input.now second.now
+request_of (command.Resume input second options) = Resume input.now second.now options
 
 -- a word stands and is this one
 abbrev pub is_word : Text → Option Text → Bool
@@ -120,7 +122,14 @@ abbrev pub queens_requested : Option Text → (Text → Option Text) → Options
 queens_requested mode value options =
     if is_word (codes "queens") mode then option_map (λ size. Queens size options) (queens_size value) else None
 
--- what a mode asks for that reads two texts
+-- what the mode asks for that solves a model from values that are known
+abbrev pub resuming_requested : Option Text → (Text → Option Text) → Options → Option Request
+resuming_requested mode value options =
+    if is_word (codes "resume") mode
+    then option_map (λ names. Resume names.0 names.1 options) (both_inputs value)
+    else None
+
+-- what a mode asks for that reads two texts and doesn't search
 abbrev pub checking_of : Option Text → Text × Text → Option Request
 checking_of mode names =
     if is_word (codes "check") mode then Some (Check names.0 names.1)
@@ -156,7 +165,8 @@ abbrev pub mode_requested : Option Text → (Text → Option Text) → Options �
 mode_requested mode value options =
     or_else (searching_requested mode value options)
     (or_else (queens_requested mode value options)
-    (if options.progress then None else still_requested mode value))
+    (or_else (resuming_requested mode value options)
+    (if options.progress then None else still_requested mode value)))
 
 -- what the words ask for, by the values of words and options: modes with one name or number, and with two names
 abbrev pub requested : (Text → Option Text) → Option Request

@@ -121,4 +121,13 @@ pub enum Command<'a> {
         /// The name of the text of what was found.
         second: &'a str,
     },
+    /// The model is solved, begun from values that are known.
+    Resume {
+        /// The name of the model's text.
+        input: &'a str,
+        /// The name of the values' text.
+        second: &'a str,
+        /// How.
+        options: Options,
+    },
 }

@@ -4,6 +4,7 @@ ghost use Rattle.std.specs.Prelude.{◌≡◌, codes, option_map};
 ghost use Rattle.clap.specs.Words.{first_value, found_of};
 ghost use Rattle.command_words.specs.Request.{is_word, options_of, lone_input, both_inputs, queens_size, request_of};
 ghost use Rattle.command_words.specs.Request.{reading_requested, searching_requested, queens_requested};
+ghost use Rattle.command_words.specs.Request.{resuming_requested};
 ghost use Rattle.command_words.specs.Request.{checking_requested, bound_requested, still_requested};
 ghost use Rattle.command_words.specs.Request.{mode_requested, requested};
 
@@ -123,7 +124,28 @@ fn queens_command<'a>(
     }
 }
 
-/// The command of a mode that reads two texts.
+/// The command that solves a model from values that are known.
+fn resuming_command<'a>(
+    mode: Option<&str>,
+    matches: &ArgMatches<'a>,
+    options: Options,
+) -> Option<Command<'a>>
+    ensures { option_map request_of result
+        ≡ resuming_requested (option_map (λ s. s.now) mode.entry) (first_value (found_of matches.now)) options }
+{
+    if is_word("resume", mode) {
+        let (input, second) = both_inputs(matches)?;
+        Some(Command::Resume {
+            input,
+            second,
+            options,
+        })
+    } else {
+        None
+    }
+}
+
+/// The command of a mode that reads two texts and doesn't search.
 fn checking_command<'a>(mode: Option<&str>, matches: &ArgMatches<'a>) -> Option<Command<'a>>
     ensures { option_map request_of result
         ≡ checking_requested (option_map (λ s. s.now) mode.entry) (first_value (found_of matches.now)) }
@@ -185,6 +207,9 @@ fn mode_command<'a>(matches: &ArgMatches<'a>, options: Options) -> Option<Comman
         return Some(command);
     }
     if let Some(command) = queens_command(mode, matches, options) {
+        return Some(command);
+    }
+    if let Some(command) = resuming_command(mode, matches, options) {
         return Some(command);
     }
     if options.progress {

@@ -33,6 +33,7 @@ fn mode_of<'a>(command: &Command<'a>) -> (&'static str, &'a str) {
         Command::CheckCore { input, .. } => ("checkcore", input),
         Command::Bound { input, .. } => ("bound", input),
         Command::Certify { input, .. } => ("certify", input),
+        Command::Resume { input, .. } => ("resume", input),
     }
 }
 
@@ -44,7 +45,8 @@ fn second_of<'a>(command: &Command<'a>) -> Option<&'a str> {
         | Command::Drup { second, .. }
         | Command::CheckAll { second, .. }
         | Command::CheckCore { second, .. }
-        | Command::Certify { second, .. } => Some(second),
+        | Command::Certify { second, .. }
+        | Command::Resume { second, .. } => Some(second),
         _ => None,
     }
 }
@@ -73,7 +75,8 @@ fn options_of(command: &Command<'_>) -> Option<(u64, bool, bool)> {
         | Command::Sat { options, .. }
         | Command::Opb { options, .. }
         | Command::All { options, .. }
-        | Command::Core { options, .. } => Some((
+        | Command::Core { options, .. }
+        | Command::Resume { options, .. } => Some((
             options.search.budget,
             options.search.restart,
             options.progress,
@@ -98,7 +101,7 @@ type Named = (
     Option<&'static str>,
 );
 
-static NAMES: [Named; 20] = [
+static NAMES: [Named; 23] = [
     ("bee compile m.bee", "compile", "m.bee", None),
     ("bee compile stdin --budget 5", "compile", "stdin", None),
     (
@@ -149,6 +152,19 @@ static NAMES: [Named; 20] = [
         "m.cnf",
         Some("m.cnf"),
     ),
+    ("bee resume m.bee a.txt", "resume", "m.bee", Some("a.txt")),
+    (
+        "bee resume --progress stdin --budget 5 m.bee",
+        "resume",
+        "stdin",
+        Some("m.bee"),
+    ),
+    (
+        "bee resume m.bee --no-restart -- m.bee",
+        "resume",
+        "m.bee",
+        Some("m.bee"),
+    ),
 ];
 
 /// Asserts that a command has the mode and the names of a row.
@@ -179,7 +195,7 @@ fn commands_of_words(rt: HostRuntime) -> Result<(), Fail> {
 /// A line, the budget, whether the search may begin again and its progress is told, and the size of the board.
 type Given = (&'static str, u64, bool, bool, Option<u64>);
 
-static OPTIONS: [Given; 14] = [
+static OPTIONS: [Given; 18] = [
     ("bee solve m.bee", USUAL, true, false, None),
     ("bee solve m.bee --budget 007", 7, true, false, None),
     ("bee solve --no-restart m.bee", USUAL, false, false, None),
@@ -209,6 +225,10 @@ static OPTIONS: [Given; 14] = [
         true,
         None,
     ),
+    ("bee resume m.bee a.txt", USUAL, true, false, None),
+    ("bee resume m.bee a.txt --budget=1", 1, true, false, None),
+    ("bee resume --no-restart m.bee a", USUAL, false, false, None),
+    ("bee resume m.bee --progress a", USUAL, true, true, None),
     ("bee queens 4", USUAL, true, false, Some(4)),
     ("bee --progress queens 5", USUAL, true, true, Some(5)),
     (
@@ -310,7 +330,7 @@ static NO_BOUNDS: [&str; 13] = [
     "bee bound m.bee -- -9223372036854775809",
 ];
 
-static NO_COMMANDS: [&str; 55] = [
+static NO_COMMANDS: [&str; 60] = [
     "bee",
     "bee compile",
     "bee solve",
@@ -339,6 +359,11 @@ static NO_COMMANDS: [&str; 55] = [
     "bee bound m.bee",
     "bee bound m.bee seven",
     "bee bound m.bee 9223372036854775808",
+    "bee resume",
+    "bee resume m.bee",
+    "bee resume m.bee a.txt b.txt",
+    "bee resume m.bee a.txt --budget 0",
+    "bee resume m.bee a.txt --progress --progress",
     "bee SAT m.cnf",
     "bee drup",
     "bee drup m.cnf",

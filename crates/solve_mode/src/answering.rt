@@ -17,7 +17,7 @@ ghost use Rattle.bee_compile.specs.Compiled.{IsInstance};
 ghost use Rattle.solve_mode.specs.Solved.{outcome_of};
 
 use answer_document::Verdict;
-use decode_minimize::{AnsweredModel, SolutionWatcher, answer_owned_watched};
+use decode_minimize::{AnsweredModel, SolutionWatcher, WishedModel, answer_wished};
 use model_lower::LowerFault;
 use model_meaning::Model;
 use rule_base::Steps;
@@ -42,31 +42,58 @@ pub fn outcome_of(verdict: Verdict) -> Outcome
 fn answer_with<L: Ledger, W: SolutionWatcher>(
     alloc: Global,
     blank: Blank,
-    model: Model,
+    asked: WishedModel,
     options: SearchOptions,
     watcher: &mut W,
 ) -> Result<AnsweredModel, LowerFault>
-    requires typed { WellTyped model }
-    requires limits { InLimits model }
+    requires typed { WellTyped asked.model }
+    requires limits { InLimits asked.model }
     requires budget { IsBudget options.budget }
-    requires heard { AreHeard W.heard model }
+    requires heard { AreHeard W.heard asked.model }
     requires name { blank.name ≡ L.name }
     requires parts { blank.parts ≡ L.parts }
     requires some { 0 < L.parts }
-    ensures light { IfOk result (λ a. weight_of model ≤ most_weight) }
+    ensures light { IfOk result (λ a. weight_of asked.model ≤ most_weight) }
     ensures answer { IfOk result (λ a. (before after : ℕ)
-        × IsAnswer IsInstance model options a.document before after) }
-    ensures decls { IfOk result (λ a. a.decls ≡ model.decls) }
+        × IsAnswer IsInstance asked.model options a.document before after) }
+    ensures decls { IfOk result (λ a. a.decls ≡ asked.model.decls) }
     ensures size { IfOk result (λ a. (last : Kernel)
-        → IsCompilation IsInstance (start_of model) a.document.ledger last
+        → IsCompilation IsInstance (start_of asked.model) a.document.ledger last
         → a.size ≡ size_of (cnf_of last)) }
-    ensures heavy { IfErr result (λ e. IsFaultOf e model) }
+    ensures heavy { IfErr result (λ e. IsFaultOf e asked.model) }
 {
     let mut steps = Steps::<L>::open(blank);
-    answer_owned_watched(alloc, model, options, TableP, &mut steps, watcher)
+    answer_wished(alloc, asked, options, TableP, &mut steps, watcher)
 }
 
-/// The answer to a model, by all rules. Each statement is let go when it is lowered, and each better solution is told.
+/// The answer to a model, by all rules, where values are wished for. Each statement is let go when it is lowered, and
+/// each better solution is told.
+pub(crate) fn answer_asked<W: SolutionWatcher>(
+    alloc: Global,
+    asked: WishedModel,
+    options: SearchOptions,
+    watcher: &mut W,
+) -> Result<AnsweredModel, LowerFault>
+    requires typed { WellTyped asked.model }
+    requires limits { InLimits asked.model }
+    requires budget { IsBudget options.budget }
+    requires heard { AreHeard W.heard asked.model }
+    ensures light { IfOk result (λ a. weight_of asked.model ≤ most_weight) }
+    ensures answer { IfOk result (λ a. (before after : ℕ)
+        × IsAnswer IsInstance asked.model options a.document before after) }
+    ensures decls { IfOk result (λ a. a.decls ≡ asked.model.decls) }
+
+    // The size is that of the CNF of the state to which the ledger leads.
+    ensures size { IfOk result (λ a. (last : Kernel)
+        → IsCompilation IsInstance (start_of asked.model) a.document.ledger last
+        → a.size ≡ size_of (cnf_of last)) }
+    ensures heavy { IfErr result (λ e. IsFaultOf e asked.model) }
+{
+    answer_with::<Brand, W>(alloc, Blank::new(1), asked, options, watcher)
+}
+
+/// The answer to a model, by all rules, where nothing is wished for. Each statement is let go when it is lowered, and
+/// each better solution is told.
 pub fn answer_model<W: SolutionWatcher>(
     alloc: Global,
     model: Model,
@@ -88,5 +115,9 @@ pub fn answer_model<W: SolutionWatcher>(
         → a.size ≡ size_of (cnf_of last)) }
     ensures heavy { IfErr result (λ e. IsFaultOf e model) }
 {
-    answer_with::<Brand, W>(alloc, Blank::new(1), model, options, watcher)
+    let asked = WishedModel {
+        model,
+        wish: Vec::new(alloc),
+    };
+    answer_asked(alloc, asked, options, watcher)
 }

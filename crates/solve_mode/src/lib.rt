@@ -13,7 +13,7 @@
 //! `answer_model` opens the counter of queries and is used by `queens_mode`, too; `outcome_of`
 //! says which verdicts are `Done`. `write_answer` and the record are shared with `opb_mode`, whose
 //! texts stand for models in another way: which text holds which model is a parameter of the record
-//! (`SolveRun`).
+//! (`SolveRun`). `write_wished`, for `resume_mode`, takes values that are wished for, too.
 #![tactic(auto)]
 
 mod answering;
@@ -21,5 +21,5 @@ mod making;
 mod mode;
 
 pub use answering::{answer_model, outcome_of};
-pub use making::write_answer;
+pub use making::{write_answer, write_wished};
 pub use mode::solve;

@@ -11,9 +11,9 @@ ghost use Rattle.decode_minimize.specs.Answers.{IsBudget};
 ghost use Rattle.decode_minimize.specs.Heard.{AreHeard, HearsAll};
 ghost use Rattle.solve_mode.specs.Solved.{IsAnswerText, Answers};
 
-use crate::answering::{answer_model, outcome_of};
+use crate::answering::{answer_asked, outcome_of};
 use answer_document::write_document;
-use decode_minimize::SolutionWatcher;
+use decode_minimize::{SolutionWatcher, WishedModel};
 use model_lower::LowerFault;
 use model_meaning::Model;
 use model_texts::{ModelTextFault, lower_fault, model_of};
@@ -23,7 +23,30 @@ use std::alloc::{AllocError, Global};
 use std::cell::RefCell;
 use text_modes::Outcome;
 
-/// The text of the answer to a model, with what its verdict says of the run.
+/// The text of the answer to a model, with what its verdict says of the run. The values that are wished for are decided
+/// first in the first round; nothing is promised of that.
+pub fn write_wished<W: SolutionWatcher>(
+    alloc: Global,
+    asked: WishedModel,
+    options: SearchOptions,
+    watcher: &mut W,
+) -> Result<(Outcome, Vec<u8>), LowerFault>
+    requires typed { WellTyped asked.model }
+    requires limits { InLimits asked.model }
+    requires budget { IsBudget options.budget }
+    requires heard { AreHeard W.heard asked.model }
+    ensures light { IfOk result (λ made. weight_of asked.model ≤ most_weight) }
+    ensures text { IfOk result (λ made. IsAnswerText options asked.model made.0 made.1.items) }
+    ensures heavy { IfErr result (λ e. IsFaultOf e asked.model) }
+{
+    let goal = asked.model.goal;
+    let answered = answer_asked(alloc, asked, options, watcher)?;
+    let decls = answered.decls.as_slice();
+    let text = write_document(alloc, decls, goal, &answered.document)?;
+    Ok((outcome_of(answered.document.verdict), text))
+}
+
+/// The same, where nothing is wished for.
 pub fn write_answer<W: SolutionWatcher>(
     alloc: Global,
     model: Model,
@@ -38,11 +61,11 @@ pub fn write_answer<W: SolutionWatcher>(
     ensures text { IfOk result (λ made. IsAnswerText options model made.0 made.1.items) }
     ensures heavy { IfErr result (λ e. IsFaultOf e model) }
 {
-    let goal = model.goal;
-    let answered = answer_model(alloc, model, options, watcher)?;
-    let decls = answered.decls.as_slice();
-    let text = write_document(alloc, decls, goal, &answered.document)?;
-    Ok((outcome_of(answered.document.verdict), text))
+    let asked = WishedModel {
+        model,
+        wish: Vec::new(alloc),
+    };
+    write_wished(alloc, asked, options, watcher)
 }
 
 /// The text of the answer to the model that a text says.

@@ -18,3 +18,6 @@ queens-requires-clause-heard g c = c.requires.heard
 
 pub opb-requires-clause-heard : goal.opb-requires-clause-heard
 opb-requires-clause-heard g c = c.requires.heard
+
+pub resume-requires-clause-heard : goal.resume-requires-clause-heard
+resume-requires-clause-heard g c = c.requires.heard

@@ -1,4 +1,4 @@
-use Rattle.solve_mode.proofs.answering.answer_model.Given as goal
+use Rattle.solve_mode.proofs.answering.answer_asked.Given as goal
 
 -- the counter is that of the new ledger
 abbrev pub ghosts-answer_with : goal.ghosts-answer_with

@@ -1,0 +1,3 @@
+mod Refusals
+mod ToldTexts
+pub mod Ends

@@ -122,7 +122,7 @@ class Translation:
 
     def item(self, weight: int, name: str, arguments: tuple[Argument, ...]) -> Item:
         """An item of the text."""
-        shown = ",".join(self.argument(it) for it in arguments)
+        shown = ",".join([it if isinstance(it, str) else self.argument(it) for it in arguments])
         made = Item(f"{name}({shown})", weight, self.line, self.constraint)
         self.length += len(made.text) + 1
         if self.length > LONGEST:
@@ -145,7 +145,7 @@ class Translation:
             return argument
         if isinstance(argument, int):
             return self.numeral(argument)
-        return "[" + ",".join(self.argument(it) for it in argument) + "]"
+        return f"[{','.join([it if isinstance(it, str) else self.numeral(it) for it in argument])}]"
 
     def say(self, weight: int, name: str, *arguments: Argument) -> None:
         """Writes a statement."""
@@ -225,7 +225,7 @@ class Translation:
     def clause(self, literals: Sequence[str]) -> None:
         """Writes that some literal is true."""
         kept = [it for it in dict.fromkeys(literals) if it != "false"]
-        if "true" in kept or any(self.negation(it) in kept for it in kept if it[0] == "-"):
+        if "true" in kept or any([it[0] == "-" and it[1:] in kept for it in kept]):
             return
         self.say(len(kept), "bool_array_or", kept)
 

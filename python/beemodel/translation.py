@@ -76,6 +76,7 @@ class Translation:
         self.channels: list[Item] = []
         self.statements: list[Item] = []
         self.count_of_fresh = self.length = 0
+        self.ending = ""
         self.cuts: dict[str, Cuts] = {}
         self.lines: dict[str, str] = {}
         self.integers: dict[object, Integer] = {}
@@ -169,14 +170,14 @@ class Translation:
 
     def fresh_name(self) -> str:
         """A name that no variable has: those of a script don't begin with `_`."""
-        number, name = self.count_of_fresh, "_"
+        block, digit = divmod(self.count_of_fresh, len(DIGITS))
+        if digit == 0:
+            self.ending = ""
+            while block:
+                block, last = divmod(block - 1, len(DIGITS))
+                self.ending += DIGITS[last]
         self.count_of_fresh += 1
-        while True:
-            number, digit = divmod(number, len(DIGITS))
-            name += DIGITS[digit]
-            if not number:
-                return name
-            number -= 1
+        return f"_{DIGITS[digit]}{self.ending}"
 
     def fresh_boolean(self) -> str:
         """A Boolean of the layer's own."""

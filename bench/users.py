@@ -1,14 +1,17 @@
 """Instances that people know, as a user writes them in Python, beside MiniZinc with gecode.
 
-    python3 bench/users.py [SECONDS [NAME ..]]
+    python3 bench/users.py [--seconds 60] [--jobs 1] [NAME ..]
 
 Each family is written from plain words with the layer's constraints, no bound by hand, and as a MiniZinc model with
 the same words. For each instance a line: its weight, the bytes of its text, CPU seconds of the layer and of `bee
 solve`, what it answers, CPU seconds of MiniZinc and gecode together, what they answer, and the commit that was
-measured. A run that takes more than SECONDS of CPU time (60) is stopped. Of instances that are not named, those of
-`results/users.tsv` are kept. BEE names the program; INSTANCES a folder of the instances, ../shared/instances.
+measured. A run that takes more than so many seconds of CPU time is stopped; so many instances go side by side as there
+are jobs. Names are those of families or of instances; of others the rows of `results/users.tsv` are kept. BEE names the
+program; INSTANCES a folder of the instances, ../shared/instances.
 """
+import argparse
 import json
+import multiprocessing
 import os
 import resource
 import subprocess
@@ -229,19 +232,30 @@ def kept():
     return {(row[0], row[1]): row for row in rows[1:]}
 
 
+def row(task):
+    """The row of an instance: the one that is kept, or what is measured in so many seconds."""
+    family, name, data, seconds, known, commit = task
+    if seconds is None:
+        return known
+    return [family, name, *ours(family, data, seconds), *gecode(family, data, seconds), commit]
+
+
 def main():
-    seconds = int(sys.argv[1]) if len(sys.argv) > 1 else 60
-    names, known = sys.argv[2:], kept()
+    parser = argparse.ArgumentParser(description=__doc__, formatter_class=argparse.RawDescriptionHelpFormatter)
+    parser.add_argument("--seconds", type=int, default=60)
+    parser.add_argument("--jobs", type=int, default=1)
+    parser.add_argument("names", nargs="*", metavar="NAME")
+    asked, known, tasks = parser.parse_args(), kept(), []
     words = ["git", "-C", str(TOP), "rev-parse", "--short", "HEAD"]
     commit = subprocess.run(words, capture_output=True, text=True).stdout.strip()
-    print("\t".join(HEAD), flush=True)
     for family, name, data in instances():
         name = name or family
-        if not names or family in names or name in names:
-            shown = ours(family, data, seconds) + gecode(family, data, seconds)
-            known[family, name] = [family, name, *shown, commit]
-        if (family, name) in known:
-            print(*known[family, name], sep="\t", flush=True)
+        is_asked = not asked.names or family in asked.names or name in asked.names
+        tasks.append((family, name, data, asked.seconds if is_asked else None, known.get((family, name)), commit))
+    print("\t".join(HEAD), flush=True)
+    with multiprocessing.Pool(asked.jobs, maxtasksperchild=1) as pool:
+        for it in filter(None, pool.imap(row, tasks, chunksize=1)):
+            print(*it, sep="\t", flush=True)
 
 
 if __name__ == "__main__":

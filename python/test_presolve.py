@@ -1,6 +1,7 @@
 """What a presolve leaves, beside the trying of all assignments; and mutants of its steps that are too strong."""
 import random
 import unittest
+from contextlib import contextmanager
 from unittest import mock
 
 import test_constraints
@@ -17,7 +18,7 @@ from beemodel import (
     weighted_sum,
 )
 from beemodel import assignment, bounds, choices, disjunctive, functions, packing, presolve
-from beemodel import propagators, resources, sequences, tables
+from beemodel import propagators, resources, sequences, shops, tables
 from beemodel.guesses import Guessing
 from trying import Case, assignments, compare, declare, need_program
 
@@ -81,6 +82,29 @@ def packed(rng):
     return Case(domains, make, means)
 
 
+def shop(rng):
+    """Two jobs of two steps, which go through two machines in either order."""
+    lengths = [[rng.randint(1, 3) for _ in range(2)] for _ in range(2)]
+    first, wait = [rng.randint(0, 1) for _ in range(2)], rng.randint(0, 2)
+    domains = {f"x{job}{at}": range(0, 7) for job in range(2) for at in range(2)}
+
+    def make(v):
+        each = [[interval(v[f"x{job}{at}"], lengths[job][at]) for at in range(2)] for job in range(2)]
+        machines = [[each[job][at ^ first[job]] for job in range(2)] for at in range(2)]
+        return [*map(no_overlap, machines), *(it[0].end + wait <= it[1].start for it in each)]
+
+    def means(values):
+        each = [
+            [(values[f"x{job}{at}"], values[f"x{job}{at}"] + lengths[job][at]) for at in range(2)]
+            for job in range(2)
+        ]
+        pairs = [[each[job][at ^ first[job]] for job in range(2)] for at in range(2)]
+        are_apart = all(one[1] <= other[0] or other[1] <= one[0] for one, other in pairs)
+        return are_apart and all(it[0][1] + wait <= it[1][0] for it in each)
+
+    return Case(domains, make, means)
+
+
 def lost(case):
     """A solution that a presolve loses, if it loses one."""
     model = Model()
@@ -101,7 +125,7 @@ def lost(case):
 
 def goal_of(rng):
     """A model with a goal, its domains, and its meaning and what is made least as functions."""
-    case = rng.choice([packed, packed, loads])(rng)
+    case = rng.choice([packed, packed, loads, shop])(rng)
     model = Model()
     variables = declare(model, case.domains)
     model.add(case.make(variables))
@@ -166,6 +190,14 @@ def turned_down(plain, bounds_of, atom, value):
     return plain(bounds_of, atom, value - 1)
 
 
+@contextmanager
+def untried(of, name):
+    """A plan without a step is taken as it is."""
+    with mock.patch.object(of, name, lambda *them: None):
+        with mock.patch.object(Model, "is_solution", lambda *them: True):
+            yield
+
+
 AT_MOST, NARROW = bounds.Bounds.at_most, propagators.AtMostZero.narrow
 
 # Each takes a value away that the constraints allow: a patch, and what has to see it.
@@ -218,6 +250,10 @@ MUTANTS = {
     ),
     "a best value one too great": lambda: stronger(
         presolve.Presolve, "least_possible", lambda it, *them: it + 1
+    ),
+    "a plan that is tried on nothing": lambda: untried(shops.Drawing, "take_comparison"),
+    "values that come too early by one": lambda: mock.patch.object(
+        sequences, "max", lambda *them: max(*them) - 1, create=True
     ),
 }
 WINDOWS, ROWS = resources.check_windows, propagators.Rows.__init__

@@ -14,7 +14,7 @@ from typing import TYPE_CHECKING, NamedTuple, Optional, Union
 from . import weights
 from .choices import gathered
 from .domains import Domain, multiple, sums
-from .expressions import Comparison, Number, Sum, Truth, flatten
+from .expressions import Comparison, IntegerVariable, Number, Sum, Truth, flatten
 from .translation import Integer
 
 if TYPE_CHECKING:
@@ -47,12 +47,12 @@ class Term(NamedTuple):
 
 def low_of(terms: Iterable[Term]) -> int:
     """The least value of a sum by its terms' domains."""
-    return sum(it.values[0] for it in terms)
+    return sum(it.factor * it.domain[0 if it.factor > 0 else -1] for it in terms)
 
 
 def high_of(terms: Iterable[Term]) -> int:
     """The greatest value of a sum by its terms' domains."""
-    return sum(it.values[-1] for it in terms)
+    return sum(it.factor * it.domain[-1 if it.factor > 0 else 0] for it in terms)
 
 
 def terms_of(translation: Translation, number: Number) -> tuple[list[Term], int]:
@@ -141,6 +141,13 @@ def literal_of_comparison(
 ) -> str:
     """The Boolean term that is true where a comparison is; one that is offered where none is made
     yet and one is needed."""
+    atoms, constant = flatten(comparison.number)
+    variable = next(iter(atoms)) if len(atoms) == 1 else None
+    if isinstance(variable, IntegerVariable):
+        term = Term(atoms[variable], translation.integer(variable))
+        if comparison.relation != "neq":
+            return literal_of_term(translation, term, comparison.relation, -constant)
+        return translation.negation(literal_of_term(translation, term, "eq", -constant))
     it = stated(translation, comparison)
     if isinstance(it, bool):
         return "true" if it else "false"

@@ -391,21 +391,23 @@ class Rows(Propagator):
 
     def __init__(self, atoms: Sequence[Number], rows: Sequence[tuple[int, ...]]):
         self.atoms, self.rows = atoms, rows
+        self.columns = [{*it} for it in zip(*rows)]
         self.size = (1 + len(atoms)) * (1 + len(rows))
 
     def run(self, bounds: Bounds) -> None:
-        left = [
-            row for row in self.rows if all(bounds.may_be(it, value) for it, value in zip(self.atoms, row))
-        ]
+        left, columns = self.rows, self.columns
+        allowed = [{it for it in each if bounds.may_be(atom, it)} for atom, each in zip(self.atoms, columns)]
+        if allowed != columns:
+            left = [row for row in left if all(map(set.__contains__, allowed, row))]
+            columns = [{*it} for it in zip(*left)]
         if not left:
             raise Conflict
-        for atom, column in zip(self.atoms, zip(*left)):
+        for atom, column in zip(self.atoms, columns):
             bounds.at_least(atom, min(column))
             bounds.at_most(atom, max(column))
             if atom in bounds.domains and bounds.high[atom] - bounds.low[atom] < LISTED:
-                kept = set(column)
                 for value in [*bounds.values(atom)]:
-                    if value not in kept:
+                    if value not in column:
                         bounds.remove(atom, value)
 
 

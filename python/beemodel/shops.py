@@ -181,7 +181,7 @@ class Shop:
         ]
         while len(rules) < PLANS:
             rules.append(lambda place, head, duration: -self.tails[place] * chance.uniform(0.5, 1.5))
-        made = {}
+        made: dict[str, Plan] = {}
         for rule in rules:
             plan = self.built(rule)
             made.setdefault(str(plan.orders), plan)
@@ -451,12 +451,13 @@ class Drawing:
         atom = next(iter(atoms), None)
         if [*atoms.values()] != [1]:
             return False
-        moments = self.moments(atom) if isinstance(atom, Extreme) else [self.moment(sought)]
-        for it in moments or ():
-            if it is None:
-                return False
-            shift = constant if isinstance(atom, Extreme) else 0
-            self.last[it[0]] = max(it[1] + shift, self.last.get(it[0], LONG_AGO))
+        if isinstance(atom, Extreme):
+            moments, shift = self.moments(atom) or [], constant
+        else:
+            alone, shift = self.moment(sought), 0
+            moments = [] if alone is None else [alone]
+        for place, behind in moments:
+            self.last[place] = max(behind + shift, self.last.get(place, LONG_AGO))
         return bool(moments)
 
     def shop(self) -> Shop:

@@ -182,7 +182,14 @@ def table(numbers: Iterable[NumberLike], rows: Iterable[Sequence[int]]) -> Truth
     for each cell.
     """
     members = [number_of(it) for it in numbers]
-    taken = [tuple(whole(cell, "a cell of a table") for cell in row) for row in rows]
+    taken = [whole_row(it) for it in rows]
     for row in taken:
         same_length("table", members, row)
     return Table(members, taken)
+
+
+def whole_row(row: Sequence[int]) -> tuple[int, ...]:
+    """A row of whole numbers."""
+    if {*map(type, row)} == {int}:
+        return tuple(row)
+    return tuple(whole(cell, "a cell of a table") for cell in row)

@@ -76,6 +76,7 @@ class Translation:
         self.channels: list[Item] = []
         self.statements: list[Item] = []
         self.count_of_fresh = self.length = 0
+        self.ending = ""
         self.cuts: dict[str, Cuts] = {}
         self.lines: dict[str, str] = {}
         self.integers: dict[object, Integer] = {}
@@ -122,7 +123,7 @@ class Translation:
 
     def item(self, weight: int, name: str, arguments: tuple[Argument, ...]) -> Item:
         """An item of the text."""
-        shown = ",".join(self.argument(it) for it in arguments)
+        shown = ",".join([it if isinstance(it, str) else self.argument(it) for it in arguments])
         made = Item(f"{name}({shown})", weight, self.line, self.constraint)
         self.length += len(made.text) + 1
         if self.length > LONGEST:
@@ -145,7 +146,7 @@ class Translation:
             return argument
         if isinstance(argument, int):
             return self.numeral(argument)
-        return "[" + ",".join(self.argument(it) for it in argument) + "]"
+        return f"[{','.join([it if isinstance(it, str) else self.numeral(it) for it in argument])}]"
 
     def say(self, weight: int, name: str, *arguments: Argument) -> None:
         """Writes a statement."""
@@ -169,14 +170,14 @@ class Translation:
 
     def fresh_name(self) -> str:
         """A name that no variable has: those of a script don't begin with `_`."""
-        number, name = self.count_of_fresh, "_"
+        block, digit = divmod(self.count_of_fresh, len(DIGITS))
+        if digit == 0:
+            self.ending = ""
+            while block:
+                block, last = divmod(block - 1, len(DIGITS))
+                self.ending += DIGITS[last]
         self.count_of_fresh += 1
-        while True:
-            number, digit = divmod(number, len(DIGITS))
-            name += DIGITS[digit]
-            if not number:
-                return name
-            number -= 1
+        return f"_{DIGITS[digit]}{self.ending}"
 
     def fresh_boolean(self) -> str:
         """A Boolean of the layer's own."""
@@ -225,7 +226,7 @@ class Translation:
     def clause(self, literals: Sequence[str]) -> None:
         """Writes that some literal is true."""
         kept = [it for it in dict.fromkeys(literals) if it != "false"]
-        if "true" in kept or any(self.negation(it) in kept for it in kept if it[0] == "-"):
+        if "true" in kept or any([it[0] == "-" and it[1:] in kept for it in kept]):
             return
         self.say(len(kept), "bool_array_or", kept)
 

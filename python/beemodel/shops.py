@@ -269,11 +269,22 @@ class Search:
         """Each task of a block to its beginning and its end, where no round way comes of it."""
         found = []
         for at, first, last in self.blocks():
+            beside = {it: self.beside(it, at) for it in self.orders[at][first : last + 1]}
             wanted = {(it, end) for it in range(first, last + 1) for end in (first, last) if it != end}
             for source, target in sorted(wanted):
                 if self.is_possible(at, source, target):
-                    found.append(Move(at, source, target, self.about(at, source, target)))
+                    found.append(Move(at, source, target, self.about(at, source, target, beside)))
         return found
+
+    def beside(self, place: int, at: int) -> tuple[int, int]:
+        """When a place comes at the earliest, and how long after it the end is, by all that is not
+        on a machine."""
+        head, tail = self.shop.first[place], self.shop.last[place]
+        for other, gap in self.before(place, at):
+            head = max(head, self.heads[other] + gap)
+        for other, gap in self.ahead(place, at):
+            tail = max(tail, self.tails[other] + gap)
+        return head, tail
 
     def blocks(self) -> list[tuple[int, int, int]]:
         """Two or more tasks on a longest way that are next to each other on a machine: the machine,
@@ -336,25 +347,27 @@ class Search:
         time = heads[end] + steps[end]
         return all(it != end and heads[it] < time for it, _ in self.before(task, at))
 
-    def about(self, at: int, source: int, target: int) -> int:
+    def about(self, at: int, source: int, target: int, beside: Mapping[int, tuple[int, int]]) -> int:
         """How long the plan is behind a move, by the ways through the tasks that change places."""
-        order, shop = self.orders[at], self.shop
+        order, machine = self.orders[at], self.shop.machines[at]
+        begins, ends = machine.begins, machine.ends
         low, high = min(source, target), max(source, target)
         placed = order[low : high + 1]
         placed.insert(target - low, placed.pop(source - low))
-        heads, one = [], order[low - 1] if low else None
-        time = LONG_AGO if one is None else self.heads[one]
+        time = self.heads[order[low - 1]] + ends[order[low - 1]] if low else LONG_AGO
+        heads = []
         for it in placed:
-            time = LONG_AGO if one is None else time + shop.between(at, one, it)
-            time = max(shop.first[it], time, *(self.heads[p] + gap for p, gap in self.before(it, at)))
-            heads.append(time)
-            one = it
-        other = order[high + 1] if high + 1 < len(order) else None
-        most, time = LONG_AGO, LONG_AGO if other is None else self.tails[other]
+            head, begin = beside[it][0], time - begins[it]
+            head = begin if begin > head else head
+            heads.append(head)
+            time = head + ends[it]
+        most, behind = LONG_AGO, order[high + 1 : high + 2]
+        time = self.tails[behind[0]] - begins[behind[0]] if behind else LONG_AGO
         for it, head in zip(reversed(placed), reversed(heads)):
-            time = LONG_AGO if other is None else time + shop.between(at, it, other)
-            time = max(shop.last[it], time, *(self.tails[p] + gap for p, gap in self.ahead(it, at)))
-            most, other = max(most, head + time), it
+            tail, end = beside[it][1], time + ends[it]
+            tail = end if end > tail else tail
+            most = head + tail if head + tail > most else most
+            time = tail - begins[it]
         return most
 
 

@@ -18,11 +18,12 @@ from .functions import Extreme
 # Before all times.
 LONG_AGO = -(1 << 62)
 
-# So many plans are made task by task, and the best of them are bettered.
+# So many plans are made task by task, and from the best of them searches begin.
 PLANS, BETTERED = 24, 3
 
-# A search ends after so many moves, or so many for each place, or so many that better nothing.
-MOVES, STEPS, PATIENCE = 2_000, 12, 600
+# Of moves there are so many in all for each place, and not more; a search ends after so many for
+# each place that better nothing, and the next one begins so many moves at random from the best plan.
+MOVES, MOST, PATIENCE, AWAY = 80, 10_000, 4, 6
 
 Arcs = list[list[tuple[int, int]]]
 
@@ -191,13 +192,17 @@ class Shop:
 
     def best_plan(self, least: int) -> Plan:
         """The best plan that is found; a search ends where one is as short as can be."""
-        chance = random.Random(0)
+        chance = random.Random(1)
         plans = self.first_plans(chance)
-        best = plans[0]
-        for plan in plans[:BETTERED]:
-            if best.length > least:
-                found = Search(self, plan, chance).run(least)
-                best = min(best, found, key=lambda it: it.length)
+        best, left = plans[0], min(MOVES * self.size, MOST)
+        for number in range(left):
+            if best.length <= least or left <= 0:
+                break
+            plan, away = (plans[number], 0) if number < min(BETTERED, len(plans)) else (best, AWAY)
+            search = Search(self, plan, chance, away)
+            search.run(least, left)
+            left -= 1 + search.turn
+            best = search.best if search.best.length <= best.length else best
         return best
 
 
@@ -212,30 +217,38 @@ class Move(NamedTuple):
 
 
 class Search:
-    """A tabu search that moves tasks on a longest way to the ends of their block on a machine."""
+    """A tabu search that moves tasks on a longest way to the ends of their block on a machine. It
+    begins some moves at random away from a plan."""
 
-    def __init__(self, shop: Shop, plan: Plan, chance: random.Random):
-        self.shop, self.chance, self.best = shop, chance, plan
+    def __init__(self, shop: Shop, plan: Plan, chance: random.Random, away: int):
+        self.shop, self.chance, self.turn = shop, chance, 0
         self.orders = [[*it] for it in plan.orders]
         self.heads, self.tails = shop.longest(self.orders)
         self.until: dict[tuple[int, int, int], int] = {}
+        for _ in range(away):
+            moves = self.moves()
+            if moves:
+                self.take(chance.choice(moves))
+        self.best = self.plan()
 
-    def run(self, least: int) -> Plan:
-        """The best plan of the search."""
-        idle = 0
-        for turn in range(min(MOVES, STEPS * self.shop.size)):
-            moves = [] if self.best.length <= least or idle > PATIENCE else self.moves()
+    def plan(self) -> Plan:
+        """The plan that there is now."""
+        return Plan([[*it] for it in self.orders], self.heads, self.shop.length(self.heads))
+
+    def run(self, least: int, most: int) -> None:
+        """Makes so many moves at most."""
+        last = self.turn
+        while self.best.length > least and self.turn < most and self.turn - last <= PATIENCE * self.shop.size:
+            moves = self.moves()
             if not moves:
                 break
-            self.take(self.chosen(moves, turn), turn)
-            length, idle = self.shop.length(self.heads), idle + 1
-            if length < self.best.length:
-                self.best, idle = Plan([[*it] for it in self.orders], self.heads, length), 0
-        return self.best
+            self.take(self.chosen(moves))
+            if self.shop.length(self.heads) < self.best.length:
+                self.best, last = self.plan(), self.turn
 
-    def chosen(self, moves: list[Move], turn: int) -> Move:
+    def chosen(self, moves: list[Move]) -> Move:
         """The best move that turns nothing back, or one at random."""
-        allowed = [it for it in moves if it.about < self.best.length or not self.is_tabu(it, turn)]
+        allowed = [it for it in moves if it.about < self.best.length or not self.is_tabu(it)]
         if not allowed:
             return self.chance.choice(moves)
         return min(allowed, key=lambda it: (it.about, self.chance.random()))
@@ -247,13 +260,15 @@ class Search:
             return [(order[source], it) for it in order[source + 1 : target + 1]]
         return [(it, order[source]) for it in order[target:source]]
 
-    def is_tabu(self, move: Move, turn: int) -> bool:
+    def is_tabu(self, move: Move) -> bool:
         """Whether a move turns a pair back that was turned not long ago."""
-        return any(self.until.get((move.machine, other, one), 0) > turn for one, other in self.turned(move))
+        each = ((move.machine, other, one) for one, other in self.turned(move))
+        return any(self.until.get(it, 0) > self.turn for it in each)
 
-    def take(self, move: Move, turn: int) -> None:
+    def take(self, move: Move) -> None:
         """Makes a move; one that makes a round way is taken back, and not made for long."""
-        until = turn + 8 + self.chance.randrange(8)
+        self.turn += 1
+        until = self.turn + 8 + self.chance.randrange(8)
         each, order = self.turned(move), self.orders[move.machine]
         order.insert(move.target, order.pop(move.source))
         try:
@@ -261,7 +276,7 @@ class Search:
             self.until.update(((move.machine, *it), until) for it in each)
         except Cycle:
             order.insert(move.source, order.pop(move.target))
-            self.until.update(((move.machine, other, one), turn + MOVES) for one, other in each)
+            self.until.update(((move.machine, other, one), self.turn + MOST) for one, other in each)
 
     # Moves.
 

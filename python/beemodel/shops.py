@@ -21,9 +21,9 @@ LONG_AGO = -(1 << 62)
 # So many plans are made task by task, and from the best of them searches begin.
 PLANS, BETTERED = 24, 3
 
-# Of moves there are so many in all for each place, and not more; a search ends after so many for
-# each place that better nothing, and the next one begins so many moves at random from the best plan.
-MOVES, MOST, PATIENCE, AWAY = 80, 10_000, 4, 6
+# There are no more moves than this, nor than the square of the places; a search ends after so many
+# for each place that better nothing, and the next one begins so many at random from the best plan.
+MOST, PATIENCE, AWAY = 10_000, 5, 4
 
 Arcs = list[list[tuple[int, int]]]
 
@@ -81,21 +81,19 @@ class Shop:
         machine = self.machines[at]
         return machine.ends[one] - machine.begins[other]
 
-    def links(self, orders: Sequence[Sequence[int]]) -> tuple[Arcs, Arcs]:
-        """The arcs and those that the orders add, forwards and backwards."""
-        ahead, back = [[*it] for it in self.arcs], [[*it] for it in self.back]
-        for at, order in enumerate(orders):
-            begins, ends = self.machines[at].begins, self.machines[at].ends
+    def links(self, orders: Sequence[Sequence[int]]) -> tuple[Arcs, list[int]]:
+        """The arcs with those that the orders add, and how many lead to each place."""
+        ahead, count = [[*it] for it in self.arcs], [*map(len, self.back)]
+        for order, (_, begins, ends) in zip(orders, self.machines):
             for one, other in zip(order, order[1:]):
-                gap = ends[one] - begins[other]
-                ahead[one].append((other, gap))
-                back[other].append((one, gap))
-        return ahead, back
+                ahead[one].append((other, ends[one] - begins[other]))
+                count[other] += 1
+        return ahead, count
 
     def longest(self, orders: Sequence[Sequence[int]]) -> tuple[list[int], list[int]]:
         """When each place comes at the earliest, and how long after it the end is."""
-        ahead, back = self.links(orders)
-        open_arcs, heads, listed = [len(it) for it in back], [*self.first], []
+        ahead, open_arcs = self.links(orders)
+        heads, listed = [*self.first], []
         ready = [place for place, count in enumerate(open_arcs) if not count]
         while ready:
             place = ready.pop()
@@ -104,9 +102,9 @@ class Shop:
             for other, gap in ahead[place]:
                 if head + gap > heads[other]:
                     heads[other] = head + gap
-                open_arcs[other] -= 1
-                if not open_arcs[other]:
+                if open_arcs[other] == 1:
                     ready.append(other)
+                open_arcs[other] -= 1
         if len(listed) < self.size:
             raise Cycle
         tails = [*self.last]
@@ -192,9 +190,9 @@ class Shop:
 
     def best_plan(self, least: int) -> Plan:
         """The best plan that is found; a search ends where one is as short as can be."""
-        chance = random.Random(1)
+        chance = random.Random(0)
         plans = self.first_plans(chance)
-        best, left = plans[0], min(MOVES * self.size, MOST)
+        best, left = plans[0], min(self.size**2, MOST)
         for number in range(left):
             if best.length <= least or left <= 0:
                 break

@@ -21,9 +21,10 @@ LONG_AGO = -(1 << 62)
 # So many plans are made task by task, and from the best of them searches begin.
 PLANS, BETTERED = 24, 3
 
-# There are no more moves than this, nor than the square of the places; a search ends after so many
-# for each place that better nothing, and the next one begins so many at random from the best plan.
-MOST, PATIENCE, AWAY = 10_000, 5, 4
+# Of a hundred places there are 10,000 moves in all, and fewer of more or fewer places; a search ends
+# after so many for each place that better nothing, and the next one begins so many moves at random
+# from the best plan.
+MOST, PATIENCE, AWAY = 1_000_000, 5, 4
 
 Arcs = list[list[tuple[int, int]]]
 
@@ -135,7 +136,7 @@ class Shop:
         left = [{*it.places} for it in self.machines]
         orders: list[list[int]] = [[] for _ in self.machines]
         while any(left):
-            at, place = self.next_of(heads, left, priority)
+            place = self.next_of(heads, left, priority)
             for machine in self.on[place]:
                 left[machine].discard(place)
                 orders[machine].append(place)
@@ -145,8 +146,8 @@ class Shop:
 
     def next_of(
         self, heads: Sequence[int], left: Sequence[set[int]], priority: Callable[[int, int, int], float]
-    ) -> tuple[int, int]:
-        """The task that comes next, and a machine of it."""
+    ) -> int:
+        """The task that comes next."""
         done, at = min(
             (heads[place] + self.machines[at].ends[place], at)
             for at, places in enumerate(left)
@@ -155,7 +156,7 @@ class Shop:
         machine = self.machines[at]
         held = [it for it in sorted(left[at]) if heads[it] + machine.begins[it] < done]
         held = held or [it for it in sorted(left[at]) if heads[it] + machine.ends[it] == done]
-        return at, min(held, key=lambda it: priority(it, heads[it], machine.ends[it] - machine.begins[it]))
+        return min(held, key=lambda it: priority(it, heads[it], machine.ends[it] - machine.begins[it]))
 
     def push(self, heads: list[int], place: int, time: int) -> None:
         """A place comes at a time or later, and so do those behind it."""
@@ -181,7 +182,7 @@ class Shop:
         while len(rules) < PLANS:
             rules.append(lambda place, head, duration: -self.tails[place] * chance.uniform(0.5, 1.5))
         made: dict[str, Plan] = {}
-        for rule in rules:
+        for rule in rules[: 2 + MOST // self.size**2]:
             plan = self.built(rule)
             made.setdefault(str(plan.orders), plan)
         return sorted(made.values(), key=lambda it: it.length)
@@ -192,7 +193,7 @@ class Shop:
         """The best plan that is found; a search ends where one is as short as can be."""
         chance = random.Random(0)
         plans = self.first_plans(chance)
-        best, left = plans[0], min(self.size**2, MOST)
+        best, left = plans[0], min(self.size**2, MOST // self.size)
         for number in range(left):
             if best.length <= least or left <= 0:
                 break
@@ -318,8 +319,8 @@ class Search:
         """A longest way, at random where there are several."""
         heads, tails, shop = self.heads, self.tails, self.shop
         length = shop.length(heads)
-        begins = [it for it in range(shop.size) if heads[it] == shop.first[it] and heads[it] + tails[it] == length]
-        found = [self.chance.choice(begins)]
+        on_it = [it for it in range(shop.size) if heads[it] + tails[it] == length]
+        found = [self.chance.choice([it for it in on_it if heads[it] == shop.first[it]])]
         while True:
             place = found[-1]
             each = [
@@ -462,8 +463,13 @@ class Drawing:
             if isinstance(one, Extreme) and isinstance(other, IntegerVariable):
                 for moment in self.moments(one) or ():
                     self.arcs.append((moment[0], self.place(other), moment[1] + sign * constant))
-            elif truth.relation == "leq" and isinstance(one, IntegerVariable) and isinstance(other, IntegerVariable):
-                self.arcs.append((self.place(one), self.place(other), constant))
+            elif truth.relation == "leq" and {type(one), type(other)} == {IntegerVariable}:
+                self.take_order(one, other, constant)
+
+    def take_order(self, one: Number, other: Number, gap: int) -> None:
+        """Takes in that a variable is at least another one and a constant."""
+        assert isinstance(one, IntegerVariable) and isinstance(other, IntegerVariable)
+        self.arcs.append((self.place(one), self.place(other), gap))
 
     def moments(self, number: Extreme) -> Optional[list[tuple[int, int]]]:
         """The members of a greatest value, where each is a variable and a constant."""

@@ -214,6 +214,9 @@ MUTANTS = {
         lambda self, of, more=0: NARROW(self, of, more + 1),
     ),
     "a price one too great": lambda: stronger(propagators.Prices, "least", lambda it, *them: it + 1),
+    "the first term one too great": lambda: stronger(
+        propagators.AtMostZero, "each", lambda it, *them: [it[0] + 1, *it[1:]] if it else it
+    ),
     "a full interval that isn't": lambda: stronger(
         propagators.Differ, "narrowed", lambda it, *them: [1 + least for least in it]
     ),

@@ -131,7 +131,7 @@ class Shops(unittest.TestCase):
         jobs = json.loads((TOP / "bench/shops.json").read_text())["ft10"]["jobs"]
         length, starts = planned(jobs)
         self.assertTrue(is_plan(jobs, starts))
-        self.assertLess(length, 980)
+        self.assertLess(length, 960)
 
 
 MUTANTS = {
@@ -142,7 +142,7 @@ MUTANTS = {
         shops.Drawing, "take_comparison", lambda *them: None
     ),
     "a search that moves nothing, behind one bad plan": lambda: mock.patch.multiple(
-        shops, PLANS=0, MOVES=0
+        shops, PLANS=0, MOST=0
     ),
 }
 LINKS = shops.Shop.links

@@ -137,6 +137,8 @@ class AtMostZero:
         are_prices = all(isinstance(it, Prices) for it in terms)
         spans = [it.span for it in terms if isinstance(it, Prices)]
         self.widest = max(spans, default=0) if are_prices else None
+        rising = [(it.atom, it.rising) for it in terms if isinstance(it, Prices) and len(it.rising) == 1]
+        self.single = [(atom, *each[0]) for atom, each in rising] if len(rising) == len(terms) else []
 
     def variable(self) -> Optional[Number]:
         """The number to which the constant is added, where the sum is no other."""
@@ -145,11 +147,26 @@ class AtMostZero:
 
     def least(self, bounds: Bounds) -> int:
         """The least that the sum can be."""
-        return self.constant + sum(it.least(bounds) for it in self.terms)
+        return self.constant + sum(self.each(bounds))
+
+    def each(self, bounds: Bounds) -> list[int]:
+        """The least that each term can be."""
+        if not self.single:
+            return [it.least(bounds) for it in self.terms]
+        low, high, holes, found = bounds.low, bounds.high, bounds.holes, []
+        for atom, price, value in self.single:
+            first, last = low[atom], high[atom]
+            if first == last:
+                found.append(price if first == value else 0)
+            elif price >= 0 or not first <= value <= last or value in holes.get(atom, ()):
+                found.append(0)
+            else:
+                found.append(price)
+        return found
 
     def narrow(self, bounds: Bounds, more: int = 0) -> None:
         """No term is greater than what the least of the others, and so much more, leaves to it."""
-        each = [it.least(bounds) for it in self.terms]
+        each = self.each(bounds)
         slack = -self.constant - more - sum(each)
         if slack < 0:
             raise Conflict

@@ -18,11 +18,13 @@ from .functions import Extreme
 # Before all times.
 LONG_AGO = -(1 << 62)
 
-# So many plans are made task by task, and the best of them are bettered.
+# So many plans are made task by task, and from the best of them searches begin.
 PLANS, BETTERED = 24, 3
 
-# A search ends after so many moves, or so many for each place, or so many that better nothing.
-MOVES, STEPS, PATIENCE = 2_000, 12, 600
+# Of a hundred places there are 10,000 moves in all, and fewer of more or fewer places; a search ends
+# after so many for each place that better nothing, and the next one begins so many moves at random
+# from the best plan.
+MOST, PATIENCE, AWAY = 1_000_000, 5, 4
 
 Arcs = list[list[tuple[int, int]]]
 
@@ -80,21 +82,19 @@ class Shop:
         machine = self.machines[at]
         return machine.ends[one] - machine.begins[other]
 
-    def links(self, orders: Sequence[Sequence[int]]) -> tuple[Arcs, Arcs]:
-        """The arcs and those that the orders add, forwards and backwards."""
-        ahead, back = [[*it] for it in self.arcs], [[*it] for it in self.back]
-        for at, order in enumerate(orders):
-            begins, ends = self.machines[at].begins, self.machines[at].ends
+    def links(self, orders: Sequence[Sequence[int]]) -> tuple[Arcs, list[int]]:
+        """The arcs with those that the orders add, and how many lead to each place."""
+        ahead, count = [[*it] for it in self.arcs], [*map(len, self.back)]
+        for order, (_, begins, ends) in zip(orders, self.machines):
             for one, other in zip(order, order[1:]):
-                gap = ends[one] - begins[other]
-                ahead[one].append((other, gap))
-                back[other].append((one, gap))
-        return ahead, back
+                ahead[one].append((other, ends[one] - begins[other]))
+                count[other] += 1
+        return ahead, count
 
     def longest(self, orders: Sequence[Sequence[int]]) -> tuple[list[int], list[int]]:
         """When each place comes at the earliest, and how long after it the end is."""
-        ahead, back = self.links(orders)
-        open_arcs, heads, listed = [len(it) for it in back], [*self.first], []
+        ahead, open_arcs = self.links(orders)
+        heads, listed = [*self.first], []
         ready = [place for place, count in enumerate(open_arcs) if not count]
         while ready:
             place = ready.pop()
@@ -103,9 +103,9 @@ class Shop:
             for other, gap in ahead[place]:
                 if head + gap > heads[other]:
                     heads[other] = head + gap
-                open_arcs[other] -= 1
-                if not open_arcs[other]:
+                if open_arcs[other] == 1:
                     ready.append(other)
+                open_arcs[other] -= 1
         if len(listed) < self.size:
             raise Cycle
         tails = [*self.last]
@@ -136,7 +136,7 @@ class Shop:
         left = [{*it.places} for it in self.machines]
         orders: list[list[int]] = [[] for _ in self.machines]
         while any(left):
-            at, place = self.next_of(heads, left, priority)
+            place = self.next_of(heads, left, priority)
             for machine in self.on[place]:
                 left[machine].discard(place)
                 orders[machine].append(place)
@@ -146,8 +146,8 @@ class Shop:
 
     def next_of(
         self, heads: Sequence[int], left: Sequence[set[int]], priority: Callable[[int, int, int], float]
-    ) -> tuple[int, int]:
-        """The task that comes next, and a machine of it."""
+    ) -> int:
+        """The task that comes next."""
         done, at = min(
             (heads[place] + self.machines[at].ends[place], at)
             for at, places in enumerate(left)
@@ -156,7 +156,7 @@ class Shop:
         machine = self.machines[at]
         held = [it for it in sorted(left[at]) if heads[it] + machine.begins[it] < done]
         held = held or [it for it in sorted(left[at]) if heads[it] + machine.ends[it] == done]
-        return at, min(held, key=lambda it: priority(it, heads[it], machine.ends[it] - machine.begins[it]))
+        return min(held, key=lambda it: priority(it, heads[it], machine.ends[it] - machine.begins[it]))
 
     def push(self, heads: list[int], place: int, time: int) -> None:
         """A place comes at a time or later, and so do those behind it."""
@@ -182,7 +182,7 @@ class Shop:
         while len(rules) < PLANS:
             rules.append(lambda place, head, duration: -self.tails[place] * chance.uniform(0.5, 1.5))
         made: dict[str, Plan] = {}
-        for rule in rules:
+        for rule in rules[: 2 + MOST // self.size**2]:
             plan = self.built(rule)
             made.setdefault(str(plan.orders), plan)
         return sorted(made.values(), key=lambda it: it.length)
@@ -193,11 +193,15 @@ class Shop:
         """The best plan that is found; a search ends where one is as short as can be."""
         chance = random.Random(0)
         plans = self.first_plans(chance)
-        best = plans[0]
-        for plan in plans[:BETTERED]:
-            if best.length > least:
-                found = Search(self, plan, chance).run(least)
-                best = min(best, found, key=lambda it: it.length)
+        best, left = plans[0], min(self.size**2, MOST // self.size)
+        for number in range(left):
+            if best.length <= least or left <= 0:
+                break
+            plan, away = (plans[number], 0) if number < min(BETTERED, len(plans)) else (best, AWAY)
+            search = Search(self, plan, chance, away)
+            search.run(least, left)
+            left -= 1 + search.turn
+            best = search.best if search.best.length <= best.length else best
         return best
 
 
@@ -212,30 +216,38 @@ class Move(NamedTuple):
 
 
 class Search:
-    """A tabu search that moves tasks on a longest way to the ends of their block on a machine."""
+    """A tabu search that moves tasks on a longest way to the ends of their block on a machine. It
+    begins some moves at random away from a plan."""
 
-    def __init__(self, shop: Shop, plan: Plan, chance: random.Random):
-        self.shop, self.chance, self.best = shop, chance, plan
+    def __init__(self, shop: Shop, plan: Plan, chance: random.Random, away: int):
+        self.shop, self.chance, self.turn = shop, chance, 0
         self.orders = [[*it] for it in plan.orders]
         self.heads, self.tails = shop.longest(self.orders)
         self.until: dict[tuple[int, int, int], int] = {}
+        for _ in range(away):
+            moves = self.moves()
+            if moves:
+                self.take(chance.choice(moves))
+        self.best = self.plan()
 
-    def run(self, least: int) -> Plan:
-        """The best plan of the search."""
-        idle = 0
-        for turn in range(min(MOVES, STEPS * self.shop.size)):
-            moves = [] if self.best.length <= least or idle > PATIENCE else self.moves()
+    def plan(self) -> Plan:
+        """The plan that there is now."""
+        return Plan([[*it] for it in self.orders], self.heads, self.shop.length(self.heads))
+
+    def run(self, least: int, most: int) -> None:
+        """Makes so many moves at most."""
+        last = self.turn
+        while self.best.length > least and self.turn < most and self.turn - last <= PATIENCE * self.shop.size:
+            moves = self.moves()
             if not moves:
                 break
-            self.take(self.chosen(moves, turn), turn)
-            length, idle = self.shop.length(self.heads), idle + 1
-            if length < self.best.length:
-                self.best, idle = Plan([[*it] for it in self.orders], self.heads, length), 0
-        return self.best
+            self.take(self.chosen(moves))
+            if self.shop.length(self.heads) < self.best.length:
+                self.best, last = self.plan(), self.turn
 
-    def chosen(self, moves: list[Move], turn: int) -> Move:
+    def chosen(self, moves: list[Move]) -> Move:
         """The best move that turns nothing back, or one at random."""
-        allowed = [it for it in moves if it.about < self.best.length or not self.is_tabu(it, turn)]
+        allowed = [it for it in moves if it.about < self.best.length or not self.is_tabu(it)]
         if not allowed:
             return self.chance.choice(moves)
         return min(allowed, key=lambda it: (it.about, self.chance.random()))
@@ -247,13 +259,15 @@ class Search:
             return [(order[source], it) for it in order[source + 1 : target + 1]]
         return [(it, order[source]) for it in order[target:source]]
 
-    def is_tabu(self, move: Move, turn: int) -> bool:
+    def is_tabu(self, move: Move) -> bool:
         """Whether a move turns a pair back that was turned not long ago."""
-        return any(self.until.get((move.machine, other, one), 0) > turn for one, other in self.turned(move))
+        each = ((move.machine, other, one) for one, other in self.turned(move))
+        return any(self.until.get(it, 0) > self.turn for it in each)
 
-    def take(self, move: Move, turn: int) -> None:
+    def take(self, move: Move) -> None:
         """Makes a move; one that makes a round way is taken back, and not made for long."""
-        until = turn + 8 + self.chance.randrange(8)
+        self.turn += 1
+        until = self.turn + 8 + self.chance.randrange(8)
         each, order = self.turned(move), self.orders[move.machine]
         order.insert(move.target, order.pop(move.source))
         try:
@@ -261,7 +275,7 @@ class Search:
             self.until.update(((move.machine, *it), until) for it in each)
         except Cycle:
             order.insert(move.source, order.pop(move.target))
-            self.until.update(((move.machine, other, one), turn + MOVES) for one, other in each)
+            self.until.update(((move.machine, other, one), self.turn + MOST) for one, other in each)
 
     # Moves.
 
@@ -269,11 +283,22 @@ class Search:
         """Each task of a block to its beginning and its end, where no round way comes of it."""
         found = []
         for at, first, last in self.blocks():
+            beside = {it: self.beside(it, at) for it in self.orders[at][first : last + 1]}
             wanted = {(it, end) for it in range(first, last + 1) for end in (first, last) if it != end}
             for source, target in sorted(wanted):
                 if self.is_possible(at, source, target):
-                    found.append(Move(at, source, target, self.about(at, source, target)))
+                    found.append(Move(at, source, target, self.about(at, source, target, beside)))
         return found
+
+    def beside(self, place: int, at: int) -> tuple[int, int]:
+        """When a place comes at the earliest, and how long after it the end is, by all that is not
+        on a machine."""
+        head, tail = self.shop.first[place], self.shop.last[place]
+        for other, gap in self.before(place, at):
+            head = max(head, self.heads[other] + gap)
+        for other, gap in self.ahead(place, at):
+            tail = max(tail, self.tails[other] + gap)
+        return head, tail
 
     def blocks(self) -> list[tuple[int, int, int]]:
         """Two or more tasks on a longest way that are next to each other on a machine: the machine,
@@ -294,8 +319,8 @@ class Search:
         """A longest way, at random where there are several."""
         heads, tails, shop = self.heads, self.tails, self.shop
         length = shop.length(heads)
-        begins = [it for it in range(shop.size) if heads[it] == shop.first[it] and heads[it] + tails[it] == length]
-        found = [self.chance.choice(begins)]
+        on_it = [it for it in range(shop.size) if heads[it] + tails[it] == length]
+        found = [self.chance.choice([it for it in on_it if heads[it] == shop.first[it]])]
         while True:
             place = found[-1]
             each = [
@@ -336,25 +361,27 @@ class Search:
         time = heads[end] + steps[end]
         return all(it != end and heads[it] < time for it, _ in self.before(task, at))
 
-    def about(self, at: int, source: int, target: int) -> int:
+    def about(self, at: int, source: int, target: int, beside: Mapping[int, tuple[int, int]]) -> int:
         """How long the plan is behind a move, by the ways through the tasks that change places."""
-        order, shop = self.orders[at], self.shop
+        order, machine = self.orders[at], self.shop.machines[at]
+        begins, ends = machine.begins, machine.ends
         low, high = min(source, target), max(source, target)
         placed = order[low : high + 1]
         placed.insert(target - low, placed.pop(source - low))
-        heads, one = [], order[low - 1] if low else None
-        time = LONG_AGO if one is None else self.heads[one]
+        time = self.heads[order[low - 1]] + ends[order[low - 1]] if low else LONG_AGO
+        heads = []
         for it in placed:
-            time = LONG_AGO if one is None else time + shop.between(at, one, it)
-            time = max(shop.first[it], time, *(self.heads[p] + gap for p, gap in self.before(it, at)))
-            heads.append(time)
-            one = it
-        other = order[high + 1] if high + 1 < len(order) else None
-        most, time = LONG_AGO, LONG_AGO if other is None else self.tails[other]
+            head, begin = beside[it][0], time - begins[it]
+            head = begin if begin > head else head
+            heads.append(head)
+            time = head + ends[it]
+        most, behind = LONG_AGO, order[high + 1 : high + 2]
+        time = self.tails[behind[0]] - begins[behind[0]] if behind else LONG_AGO
         for it, head in zip(reversed(placed), reversed(heads)):
-            time = LONG_AGO if other is None else time + shop.between(at, it, other)
-            time = max(shop.last[it], time, *(self.tails[p] + gap for p, gap in self.ahead(it, at)))
-            most, other = max(most, head + time), it
+            tail, end = beside[it][1], time + ends[it]
+            tail = end if end > tail else tail
+            most = head + tail if head + tail > most else most
+            time = tail - begins[it]
         return most
 
 
@@ -436,8 +463,13 @@ class Drawing:
             if isinstance(one, Extreme) and isinstance(other, IntegerVariable):
                 for moment in self.moments(one) or ():
                     self.arcs.append((moment[0], self.place(other), moment[1] + sign * constant))
-            elif truth.relation == "leq" and isinstance(one, IntegerVariable) and isinstance(other, IntegerVariable):
-                self.arcs.append((self.place(one), self.place(other), constant))
+            elif truth.relation == "leq" and {type(one), type(other)} == {IntegerVariable}:
+                self.take_order(one, other, constant)
+
+    def take_order(self, one: Number, other: Number, gap: int) -> None:
+        """Takes in that a variable is at least another one and a constant."""
+        assert isinstance(one, IntegerVariable) and isinstance(other, IntegerVariable)
+        self.arcs.append((self.place(one), self.place(other), gap))
 
     def moments(self, number: Extreme) -> Optional[list[tuple[int, int]]]:
         """The members of a greatest value, where each is a variable and a constant."""

@@ -183,7 +183,7 @@ class Joining(Folder):
 
     def certified(self, compiled: Compiled, tree: Tree) -> tuple[int, str]:
         with open(self.at / "found", "w") as to:
-            joined = join(tree, Hinted(tree, self.at, compiled, None), None, to)
+            joined = join(Hinted(tree, self.at, compiled, None), None, to)
         line = Bee(PROGRAM, self.at / "model.bee").certify(self.at / "found", self.at / "answer")
         return line, joined.cube_of(line) if line else ""
 

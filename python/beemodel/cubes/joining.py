@@ -113,8 +113,9 @@ class Hinted:
             # The bound makes what the cube leaves out true.
             return Shown(frozenset([self.bound]))
         if name in self.tree.refuted:
-            clause = frozenset(map(int, clause_of(name, last_line(self.parts / name))))
-            if not clause <= {-it for it in literals}:
+            last = last_line(self.parts / name)
+            clause = frozenset(map(int, clause_of(name, last)))
+            if not clause <= {-it for it in literals} or not is_of(self.tree.cube(name), last):
                 raise NoHints(name)
             return Shown(clause, bytes=(self.parts / name).stat().st_size)
         if name in self.tree.closed:
@@ -168,14 +169,13 @@ class Hinted:
                     restated = self.restated(bound)
                 if line.startswith("c"):
                     continue
-                number = line.partition(" ")[0]
-                if not number.isdecimal() or int(number) // PART != cube.number:
+                if not is_of(cube, line):
                     raise NoHints(cube.name)
-                last = number
+                last = line
                 line = line if restated is None else restated.line(line)
                 if line:
                     yield line
-        self.ids[cube.name] = int(last)
+        self.ids[cube.name] = int(last.partition(" ")[0])
 
     def restated(self, bound: Optional[int]) -> Optional[Restated]:
         """What restates lines of a worker that had another bound, or none."""
@@ -198,6 +198,12 @@ def bound_of(line: str) -> Optional[int]:
     """The bound that a part says that its worker had."""
     words = line.split()
     return int(words[2]) if len(words) > 2 else None
+
+
+def is_of(cube: Cube, line: str) -> bool:
+    """Whether the id of a line is one of a cube's."""
+    number = line.partition(" ")[0]
+    return number.isdecimal() and int(number) // PART == cube.number
 
 
 def last_line(part: Path) -> str:

@@ -191,6 +191,18 @@ class Joining(Folder):
         compiled, tree = self.parts("bee", PROGRAM)
         self.assertEqual(self.certified(compiled, tree), (0, ""))
 
+    def test_a_part_beside_one_that_needs_not_the_split_is_left_out(self):
+        compiled, tree = self.parts("bee", PROGRAM)
+        lines = Hinted(tree, self.at, compiled, None)
+        written = set(lines.order())
+        unwritten = tree.refuted - written
+        self.assertTrue(unwritten)
+        for name in unwritten:
+            sides = {name[:at] for at in range(1, len(name) + 1)} - written
+            above = min(sides, key=len)[:-1]
+            self.assertEqual(len(lines.shown[above].sides), 1)
+        self.assertEqual(self.certified(compiled, tree), (0, ""))
+
     def test_lines_under_a_weaker_bound_are_restated(self):
         """The bound comes first, the worker's one by its id here, and what the bound makes true is gone."""
         restated = Restated(-7, 100, 200)

@@ -89,7 +89,7 @@ class Hinted:
     def __init__(self, tree: Tree, parts: Path, compiled: Compiled, bound: Optional[list[int]]):
         self.tree, self.parts = tree, parts
         self.count = len(compiled.clauses)
-        self.clauses = [*compiled.clauses, *([bound] if bound else [])]
+        self.clauses = compiled.clauses + ([] if bound is None else [bound])
         self.hints, self.bound = Hints(compiled, bound), bound[0] if bound else None
         # The id that the next clause has; the ids of cubes' clauses; those of bounds; and how cubes are refuted.
         self.next = (tree.last_number + 1) * PART

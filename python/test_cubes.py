@@ -183,12 +183,24 @@ class Joining(Folder):
 
     def certified(self, compiled: Compiled, tree: Tree) -> tuple[int, str]:
         with open(self.at / "found", "w") as to:
-            joined = join(tree, Hinted(tree, self.at, compiled, None), None, to)
+            joined = join(Hinted(tree, self.at, compiled, None), None, to)
         line = Bee(PROGRAM, self.at / "model.bee").certify(self.at / "found", self.at / "answer")
         return line, joined.cube_of(line) if line else ""
 
     def test_parts_with_hints_are_one_refutation(self):
         compiled, tree = self.parts("bee", PROGRAM)
+        self.assertEqual(self.certified(compiled, tree), (0, ""))
+
+    def test_a_part_beside_one_that_needs_not_the_split_is_left_out(self):
+        compiled, tree = self.parts("bee", PROGRAM)
+        lines = Hinted(tree, self.at, compiled, None)
+        written = set(lines.order())
+        unwritten = tree.refuted - written
+        self.assertTrue(unwritten)
+        for name in unwritten:
+            sides = {name[:at] for at in range(1, len(name) + 1)} - written
+            above = min(sides, key=len)[:-1]
+            self.assertEqual(len(lines.shown[above].sides), 1)
         self.assertEqual(self.certified(compiled, tree), (0, ""))
 
     def test_lines_under_a_weaker_bound_are_restated(self):

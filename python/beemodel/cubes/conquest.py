@@ -342,7 +342,7 @@ class Conquest:
         if self.settings.are_hinted:
             lines = Hinted(self.tree, self.parts, self.compiled, self.bound)
         with open(found, "w") as to:
-            return join(self.tree, lines, values, to)
+            return join(lines, values, to)
 
     def show(self, always: bool = False) -> None:
         """Tells progress, once a second at most."""

@@ -53,6 +53,10 @@ class Plain:
     def __init__(self, tree: Tree, parts: Path):
         self.tree, self.parts = tree, parts
 
+    def order(self) -> Iterator[str]:
+        """The cubes that are written, all of them."""
+        return order(self.tree)
+
     def lines(self, name: str) -> Iterator[str]:
         """What is written for a cube."""
         behind = "".join(f"{-it} " for it in self.tree.cube(name).literals) + "0\n"
@@ -64,38 +68,90 @@ class Plain:
         yield behind
 
 
+class Shown(NamedTuple):
+    """How a cube is refuted: the clause that leaves it out, of some of its negated literals; the ids of clauses of the
+    text that show it; the sides whose clauses do, or the one whose clause it is; and the bytes of all parts that this
+    needs."""
+
+    clause: frozenset[int]
+    hints: list[int] = []
+    sides: tuple[str, ...] = ()
+    bytes: int = 0
+
+
 class Hinted:
     """Lines with hints. A part has the ids and the clauses that the joined text has, under ids that begin with its
-    cube's number; those of the clauses that close the tree begin with the next number that no cube has."""
+    cube's number; those of the clauses that close the tree begin with the next number that no cube has.
+
+    A cube is often refuted without some of its literals. Where it is without the last one, its clause leaves out the
+    other side as well, whose parts are not written."""
 
     def __init__(self, tree: Tree, parts: Path, compiled: Compiled, bound: Optional[list[int]]):
         self.tree, self.parts = tree, parts
         self.count = len(compiled.clauses)
+        self.clauses = compiled.clauses + ([] if bound is None else [bound])
         self.hints, self.bound = Hints(compiled, bound), bound[0] if bound else None
-        # The id that the next clause has; the ids of cubes' clauses; and those of bounds.
+        # The id that the next clause has; the ids of cubes' clauses; those of bounds; and how cubes are refuted.
         self.next = (tree.last_number + 1) * PART
         self.ids: dict[str, int] = {}
         self.bounds = {bound[0]: self.count + 1} if bound else {}
+        self.shown: dict[str, Shown] = {}
 
-    def lines(self, name: str) -> Iterator[str]:
-        """What is written for a cube."""
+    def order(self) -> Iterator[str]:
+        """The cubes that are written: those that the whole needs, the sides of each before itself."""
+        for name in order(self.tree):
+            self.shown[name] = self.how(name)
+        needed = [ROOT]
+        for name in needed:
+            needed += self.shown[name].sides
+        return reversed(needed)
+
+    def how(self, name: str) -> Shown:
+        """How a cube is refuted, once it is known of its sides."""
         literals = self.tree.cube(name).literals
         if self.bound is not None and -self.bound in literals:
             # The bound makes what the cube leaves out true.
-            self.ids[name] = self.count + 1
-            return
+            return Shown(frozenset([self.bound]))
         if name in self.tree.refuted:
-            yield from self.part(self.tree.cube(name))
-            return
+            last = last_line(self.parts / name)
+            clause = frozenset(map(int, clause_of(name, last)))
+            if not clause <= {-it for it in literals} or not is_of(self.tree.cube(name), last):
+                raise NoHints(name)
+            return Shown(clause, bytes=(self.parts / name).stat().st_size)
         if name in self.tree.closed:
             hints = self.hints.refute(literals)
             if hints is None:
                 raise NoHints(name)
-        else:
-            hints = [self.ids[f"{name}0"], self.ids[f"{name}1"]]
-        yield self.shown(name, [-it for it in literals], hints)
+            used = {literal for it in hints for literal in self.clauses[it - 1]}
+            return Shown(frozenset(-it for it in literals if -it in used), hints)
+        return self.by_sides(name)
 
-    def shown(self, name: str, literals: list[int], hints: list[int]) -> str:
+    def by_sides(self, name: str) -> Shown:
+        """How a cube that is split is refuted: by the shorter one of those sides that need not the literal of the
+        split, or by both."""
+        literal, sides = self.tree.split[name], (f"{name}0", f"{name}1")
+        alone = [it for it, own in zip(sides, (-literal, literal)) if own not in self.shown[it].clause]
+        if alone:
+            side = min(alone, key=lambda it: self.shown[it].bytes)
+            return self.shown[side]._replace(hints=[], sides=(side,))
+        one, other = self.shown[sides[0]], self.shown[sides[1]]
+        clause = (one.clause | other.clause) - {literal, -literal}
+        return Shown(clause, [], sides, one.bytes + other.bytes)
+
+    def lines(self, name: str) -> Iterator[str]:
+        """What is written for a cube."""
+        shown = self.shown[name]
+        if len(shown.sides) == 1:
+            self.ids[name] = self.ids[shown.sides[0]]
+        elif self.bound is not None and shown == Shown(frozenset([self.bound])):
+            self.ids[name] = self.count + 1
+        elif name in self.tree.refuted:
+            yield from self.part(self.tree.cube(name))
+        else:
+            hints = shown.hints or [self.ids[it] for it in shown.sides]
+            yield self.added(name, sorted(shown.clause, key=abs), hints)
+
+    def added(self, name: str, literals: list[int], hints: list[int]) -> str:
         """A clause under the next id."""
         self.ids[name] = self.next
         self.next += 1
@@ -113,16 +169,12 @@ class Hinted:
                     restated = self.restated(bound)
                 if line.startswith("c"):
                     continue
-                number = line.partition(" ")[0]
-                if not number.isdecimal() or int(number) // PART != cube.number:
+                if not is_of(cube, line):
                     raise NoHints(cube.name)
                 last = line
                 line = line if restated is None else restated.line(line)
                 if line:
                     yield line
-        clause = clause_of(cube.name, last)
-        if {*clause} != {str(-it) for it in cube.literals}:
-            raise NoHints(cube.name)
         self.ids[cube.name] = int(last.partition(" ")[0])
 
     def restated(self, bound: Optional[int]) -> Optional[Restated]:
@@ -138,7 +190,7 @@ class Hinted:
             hints = self.hints.refute([-bound])
             if hints is None:
                 raise NoHints(name)
-            yield self.shown(f"bound {bound}", [bound], hints)
+            yield self.added(f"bound {bound}", [bound], hints)
             self.bounds[bound] = self.ids[f"bound {bound}"]
 
 
@@ -148,12 +200,35 @@ def bound_of(line: str) -> Optional[int]:
     return int(words[2]) if len(words) > 2 else None
 
 
+def is_of(cube: Cube, line: str) -> bool:
+    """Whether the id of a line is one of a cube's."""
+    number = line.partition(" ")[0]
+    return number.isdecimal() and int(number) // PART == cube.number
+
+
+def last_line(part: Path) -> str:
+    """The last line of a part that says something of clauses, or nothing where there is none."""
+    size, end = 1 << 12, part.stat().st_size
+    with open(part, "rb") as text:
+        while True:
+            text.seek(max(0, end - size))
+            # What is read may begin within a line.
+            lines = text.read().split(b"\n")[0 if size >= end else 1 :]
+            found = [it for it in lines if it and not it.startswith(b"c")]
+            if found or size >= end:
+                return found[-1].decode(errors="replace") if found else ""
+            size *= 4
+
+
 def clause_of(name: str, line: str) -> list[str]:
     """The literals of a line with hints."""
     words = line.split()
     if words[-1:] != ["0"] or "0" not in words[1:-1]:
         raise NoHints(name)
-    return words[1 : words.index("0", 1)]
+    found = words[1 : words.index("0", 1)]
+    if not all(it.removeprefix("-").isdecimal() for it in found):
+        raise NoHints(name)
+    return found
 
 
 class Restated:
@@ -177,14 +252,14 @@ class Restated:
         return f"{head} 0 {self.own} {' '.join(kept)}\n"
 
 
-def join(tree: Tree, lines: Plain | Hinted, values: Optional[Path], to: TextIO) -> Joined:
+def join(lines: Plain | Hinted, values: Optional[Path], to: TextIO) -> Joined:
     """Writes the joined text: the values of the best solution, where there is one, and then a refutation."""
     starts, names, count = [], [], 1
     if values is not None:
         kept = [it for it in values.read_text().splitlines(True) if it.startswith(("s ", "v "))]
         to.writelines(kept)
         count += len(kept)
-    for name in order(tree):
+    for name in lines.order():
         starts.append(count)
         names.append(name)
         for it in lines.lines(name):

@@ -5,7 +5,7 @@
 # FOLDER has `size` (how many variables and clauses), `clauses`, `solver` (its kind and where it is), `share` and, once
 # a solution is known, `bound`: the literal that a better one makes true. On standard output come the lines of a
 # refutation, or the values; and, behind them, once all of it is written, `c end OUTCOME`. Lines with hints are those
-# that the joined text has: their ids begin with NUMBER, and their clauses have the cube's negated literals. It ends the
+# that the joined text has: their ids begin with NUMBER, and they hold outside of the cube as well. It ends the
 # solver where FOLDER/NAME.stop is there and the solver has taken the seconds of FOLDER/share, where the bound is
 # another one and it has not run for long, and where one of the processes KEEPERS, or that which started this where they
 # are `-`, is gone.
@@ -77,43 +77,62 @@ refutation() {
 
 # Lines of bee under ids of the joined text. The solver names the clauses of the text as that does, and behind them the
 # units of the cube and of the bound, but for those that the text has: hints of the cube are left out, and that of the
-# bound is the id behind the clauses. Its own lines follow, of which there is one without hints where the cube has two
-# literals that contradict each other.
+# bound is the id behind the clauses. Its own lines follow. Behind the literals of each stand those negated ones of the
+# cube, in the cube's order, that it has itself or by its hints: a line that no unit of the cube shows holds without
+# them. Such lists are numbered, from 1.
 renumbered() {
   awk -v number="$number" -v clauses="${size#* }" -v cube="$cube" -v bound="$bound" '
     BEGIN {
-      split(cube, literals)
-      for (i = 1; i in literals; i++) {
-        negated = literals[i] ~ /^-/ ? substr(literals[i], 2) : "-" literals[i]
-        in_cube[negated]
-        behind = behind " " negated
-      }
-      behind = behind " 0"
+      count = split(cube, literals)
+      for (i = 1; i <= count; i++) negated[i] = literals[i] ~ /^-/ ? substr(literals[i], 2) : "-" literals[i]
+      for (i = 1; i <= count; i++) in_cube[negated[i]] = list(" " negated[i])
       last = clauses
     }
-    function unit(literal, told) {
+    function list(all) {
+      if (!(all in numbers)) {
+        numbers[all] = ++lists
+        told[lists] = all
+      }
+      return numbers[all]
+    }
+    function joined(one, other, all, i) {
+      if (one == other || !other) return one
+      if (!one) return other
+      if ((one, other) in both) return both[one, other]
+      for (i = 1; i <= count; i++)
+        if (index(told[one] told[other] " ", " " negated[i] " ")) all = all " " negated[i]
+      return both[one, other] = list(all)
+    }
+    function unit(literal, hinted, needed) {
       if (literal in units) return
       units[literal]
-      hint[++last] = told
+      hint[++last] = hinted
+      needs[last] = needed
     }
     NR == FNR { if (NF == 2) units[$1]; next }
     FNR == 1 {
-      for (i = 1; i in literals; i++) unit(literals[i], "")
-      if (bound != "") unit(bound, " " (clauses + 1))
+      for (i = 1; i <= count; i++) unit(literals[i], "", in_cube[negated[i]])
+      if (bound != "") unit(bound, " " (clauses + 1), 0)
       next
     }
     $2 == "d" { next }
     {
       if ($1 - last > 9999999 || $NF != "0") exit 1
       line = number sprintf("%07d", $1 - last)
-      for (i = 2; i < NF && $i != "0"; i++) if (!($i in in_cube)) line = line " " $i
-      line = line behind
+      hints = ""
+      all = 0
+      for (i = 2; i < NF && $i != "0"; i++)
+        if ($i in in_cube) all = joined(all, in_cube[$i])
+        else line = line " " $i
       for (i++; i < NF; i++) {
-        if ($i <= clauses) line = line " " $i
-        else if ($i <= last) line = line hint[$i]
-        else line = line " " number sprintf("%07d", $i - last)
+        if ($i <= clauses) hints = hints " " $i
+        else {
+          hints = hints ($i <= last ? hint[$i] : " " number sprintf("%07d", $i - last))
+          all = joined(all, needs[$i])
+        }
       }
-      print line " 0"
+      needs[$1] = all
+      print line told[all] " 0" hints " 0"
     }' "$folder/clauses" "$at.values"
 }
 

@@ -73,9 +73,11 @@ FILES = {
     "la02-680": (lambda: lawrence("la02"), 680),
     "la03-597": (lambda: lawrence("la03"), 597),
     "la03-620": (lambda: lawrence("la03"), 620),
-    "knapsack35": (lambda: optima.knapsack(35), optima.best_knapsack(35)),
+    "knapsack30": (lambda: optima.knapsack(30), optima.best_knapsack(30)),
     "queens64": (lambda: [*models.queens(64), "solve satisfy"], None),
-    "quasigroup45": (lambda: [*models.quasigroup(45), "solve satisfy"], None),
+    "quasigroup35": (lambda: [*models.quasigroup(35), "solve satisfy"], None),
+    "tour20-380": (lambda: optima.plans.tour(20), 380),
+    "catalogue200-680": (lambda: optima.plans.catalogue(200), 680),
 }
 
 OTHERS = {

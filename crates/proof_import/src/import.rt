@@ -6,10 +6,12 @@ ghost use Rattle.clause_rings.specs.Clauses.{AreApartIn};
 ghost use Rattle.drup_check.specs.DrupLines.{IsDrup, DrupFails};
 ghost use Rattle.drup_check.specs.Taken.{DrupFaultOf, IsRefusalAt};
 ghost use Rattle.drup_check.specs.declared.fault.DrupFault.TheVariants.{Memory};
-ghost use Rattle.proof_import.specs.Assumed.{IsDerived};
+ghost use Rattle.proof_check.specs.Lrat.{proof_of};
+ghost use Rattle.proof_import.specs.Assumed.{LeadOn, IsDerived};
 
 use crate::finder::found_lines;
 use crate::taken::are_taken;
+use crate::telling::telling_lines;
 use crate::trimming::trimmed;
 use bee_list::Sequence;
 use drup_check::{DrupFault, check_drup};
@@ -18,8 +20,30 @@ use order_ints::{Cnf, Lit};
 use proof_check::{Checker, ProofLine};
 use std::alloc::Global;
 
-/// The lines that the last of these needs, if the checker takes them; none where the empty clause is in the CNF. It
-/// takes the time of a copy of the CNF, and of the clauses that the hints name.
+/// Lines without hints that tell nothing, if the checker takes them.
+fn told_anew(
+    alloc: Global,
+    cnf: &Cnf,
+    assumed: Option<Lit>,
+    lines: &[ProofLine],
+) -> Result<Sequence<ProofLine>, DrupFault>
+    requires small { cnf.now.vars ≤ 2 ^ 27 }
+    requires below { InRange cnf.now }
+    ensures led { IfOk result (LeadOn (proof_of cnf.now) assumed) }
+    ensures memory { IfErr result (λ e. e ≡ Memory) }
+{
+    let checker = Checker::with(alloc, cnf)?;
+    let lines = telling_lines(alloc, cnf, lines)?;
+    if are_taken(checker, assumed, lines.as_slice())? {
+        Ok(lines)
+    } else {
+        Err(DrupFault::Memory)
+    }
+}
+
+/// The lines that the last of these needs, if the checker takes them; none where the empty clause is in the CNF. Hints of
+/// another solver may tell the assumed literal: only where the checker refuses the lines they are looked at one by one. It
+/// takes the time of a copy of the CNF, and of the clauses that the hints name, or twice that.
 pub(crate) fn derived(
     alloc: Global,
     cnf: &Cnf,
@@ -39,7 +63,7 @@ pub(crate) fn derived(
     if are_taken(checker, assumed, lines.as_slice())? {
         Ok(lines)
     } else {
-        Err(DrupFault::Memory)
+        told_anew(alloc, cnf, assumed, lines.as_slice())
     }
 }
 

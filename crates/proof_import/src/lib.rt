@@ -14,9 +14,9 @@
 //! the CNF, behind which the empty clause or the negation of the assumed literal is known; it
 //! deletes nothing, and has no line where the CNF holds the empty clause (`derived`).
 //!
-//! Nothing is proved of how hints are found (`finder.rt`, `reasons.rt`, `trimming.rt`): the lines
-//! are taken by the checker of `proof_check` before they are given, and should it ever refuse them,
-//! it is as if memory were wanting.
+//! Nothing is proved of how hints are found (`finder.rt`, `reasons.rt`, `trimming.rt`,
+//! `telling.rt`): the lines are taken by the checker of `proof_check` before they are given, and
+//! should it ever refuse them, it is as if memory were wanting.
 #![tactic(auto)]
 
 mod assumed;
@@ -26,6 +26,7 @@ mod marks;
 mod reasons;
 mod refutation;
 mod taken;
+mod telling;
 mod trimming;
 
 pub use refutation::{check_refutation, import_refutation};
